@@ -1,0 +1,45 @@
+-- Counting the rows that pass a test. Assumes nothing.
+use mathlib.Core.Path.{_≡_, refl, ap₂, _∙_}
+use mathlib.Core.Bool.{Bool, true, false, cond}
+use Prim.Native.Nat.{ℕ, zero, suc, _+_, _≤_, _<_}
+use native.Mathlib.Nat.{le-refl}
+use native.Mathlib.Numerals.{add-one}
+use native.Mathlib.Omega.{arith}
+use Rattle.basis.specs.Count.{countWhere}
+use Rattle.basis.proofs.Pick.{pick-case}
+
+pub count-zero : (test : ℕ → Bool) → countWhere test 0 ≡ 0
+unfolding countWhere
+count-zero test = refl
+
+-- one row more
+pub count-next : (test : ℕ → Bool) (n : ℕ) → countWhere test (n + 1) ≡ countWhere test n + cond (test n) 1 0
+unfolding countWhere
+count-next test n = rw add-one
+
+pub count-same : (s t : ℕ → Bool) (n : ℕ) → ((x : ℕ) → x < n → s x ≡ t x) → countWhere s n ≡ countWhere t n
+unfolding countWhere
+count-same s t zero h = refl
+count-same s t (suc n) h =
+    ap₂ (λ (k : ℕ) (b : Bool). k + cond b 1 0) (count-same s t n (λ (x : ℕ) (l : x < n). h x (omega arith))) (h n (le-refl (suc n)))
+
+pub count-most : (test : ℕ → Bool) (n : ℕ) → countWhere test n ≤ n
+unfolding countWhere
+count-most test zero = omega arith
+count-most test (suc n) =
+    pick-case (λ (k : ℕ). countWhere test n + k ≤ suc n) (test n)
+    (λ _. omega (arith, count-most test n)) (λ _. omega (arith, count-most test n))
+
+still : (b : Bool) (n : ℕ) → cond b n 0 + cond b 1 0 ≡ cond b (suc n) 0
+still true n = add-one n
+still false n = refl
+
+-- every row passes: n; every row fails: 0
+pub count-constant : (b : Bool) (test : ℕ → Bool) (n : ℕ) → ((x : ℕ) → x < n → test x ≡ b) → countWhere test n ≡ cond b n 0
+unfolding countWhere
+count-constant b test zero h = pick-case (λ (k : ℕ). 0 ≡ k) b (λ e. refl) (λ e. refl)
+count-constant b test (suc n) h =
+    ap₂ (λ (k : ℕ) (t : Bool). k + cond t 1 0)
+    (count-constant b test n (λ (x : ℕ) (l : x < n). h x (omega arith)))
+    (h n (le-refl (suc n)))
+    ∙ still b n

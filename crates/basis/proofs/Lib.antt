@@ -1,0 +1,5 @@
+-- Laws that every layer shares.
+pub mod Pick
+pub mod Reasons
+pub mod Builds
+pub mod Counts

@@ -1,0 +1,33 @@
+-- Every well-formed table has a permitted choice, so demand 2 is not empty.
+use Prim.Native.Nat.{ℕ, _<_}
+use mathlib.Core.Path.{subst}
+use native.Mathlib.Omega.{arith}
+use Rattle.term.specs.Term.{Term, const, var, shift, sum, diff, neg, read, fresh, write}
+use Rattle.term.specs.WellFormed.{Fits, WellFormed}
+use Rattle.meaning.specs.Meaning.{Choice, Permitted}
+
+-- the lower bound of a VAR
+unfoldable pub lowest : Term → ℕ
+lowest (const k) = 0
+lowest (var name k h) = k
+lowest (shift a k) = 0
+lowest (sum a b k) = 0
+lowest (diff a b k) = 0
+lowest (neg a k) = 0
+lowest (read a b) = 0
+lowest fresh = 0
+lowest (write a b c) = 0
+
+-- each VAR at its lower bound, each FRESH all zeros
+unfoldable pub least : (ℕ → Term) → Choice
+least t = record { word = λ x. lowest (t x); array = λ x i. 0 }
+
+pub choice-exists : (M : ℕ) → 0 < M → (t : ℕ → Term) → WellFormed M t → Permitted M t (least t)
+unfolding least lowest
+choice-exists M pos t formed =
+    record {
+      bounds = λ x name k h e.
+          rw e
+          (let fits : Fits M (var name k h) = subst (Fits M) e (formed .fits x) in omega arith);
+      words = λ x i e. omega arith;
+    }

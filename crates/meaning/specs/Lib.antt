@@ -1,0 +1,2 @@
+-- What the rows of a table mean.
+pub mod Meaning

@@ -1,0 +1,1 @@
+// No code: what rows mean, and that the rules keep it.

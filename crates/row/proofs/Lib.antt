@@ -1,0 +1,7 @@
+-- Laws of rows and their bytes.
+pub mod Places
+pub mod Numbers
+pub mod Sets
+pub mod Rows
+pub mod Whole
+pub mod Steps

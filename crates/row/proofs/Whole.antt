@@ -1,0 +1,78 @@
+-- A row of bytes: its numbers fit their fields, and with the right mark it has no other bytes than those of its numbers.
+use Prim.Native.Nat.{ℕ, suc, _+_, _<_, _≤_}
+use native.Mathlib.Nat.{add-assoc, add-zero}
+use native.Mathlib.Numerals.{add-one}
+use native.Mathlib.Omega.{arith}
+use mathlib.Core.Path.{_≡_, ap, ap₂, sym, _∙_}
+use mathlib.Core.Bool.{false, not, _||_}
+use mathlib.Core.List.{List, _∷_, _++_}
+use lib.Dec.{eqb}
+use lib.ListN.{length, take, drop}
+use lib.Seq.{take-add, drop-drop, drop-cons}
+use borrow.Author.Tests.{eqb-true, not-false}
+use Rattle.basis.proofs.Pick.{or-left, or-right}
+use Rattle.row.specs.Names.{LENGTH, MARK-0, MARK-1, KIND, ZERO, A, B, C, K, H, place}
+use Rattle.row.specs.Bytes.{byte, number, bytes, rowFrom, rowAt, markWrong, headOf, bytesOf, Small, AllBytes}
+use Rattle.row.proofs.Numbers.{number-below, bytes-number}
+
+pub row-small : (t : List ℕ) (r : ℕ) → AllBytes t → Small (rowAt t r)
+unfolding rowAt rowFrom
+row-small t r all =
+    record {
+      kind = all (place r + KIND);
+      a = number-below 2 t (place r + A) all;
+      b = number-below 2 t (place r + B) all;
+      c = number-below 2 t (place r + C) all;
+      k = number-below 8 t (place r + K) all;
+      h = number-below 8 t (place r + H) all;
+    }
+
+pub mark-right : (t : List ℕ) (i : ℕ) → markWrong t i ≡ false → (byte t i ≡ MARK-0) × (byte t (i + 1) ≡ MARK-1) × (byte t (i + ZERO) ≡ 0)
+unfolding markWrong
+mark-right t i e =
+    let first = not (eqb (byte t i) MARK-0) in
+    let second = not (eqb (byte t (i + 1)) MARK-1) in
+    let third = not (eqb (byte t (i + ZERO)) 0) in
+    let both : (first || second) ≡ false = or-left (first || second) third e in (
+      eqb-true _ _ (not-false _ (or-left first second both)),
+      eqb-true _ _ (not-false _ (or-right first second both)),
+      eqb-true _ _ (not-false _ (or-right (first || second) third e)),
+    )
+
+-- a row with the right mark has no other bytes than those of its numbers
+module _ (t : List ℕ) (all : AllBytes t) (i : ℕ) (room : i + LENGTH ≤ length t) where
+  -- n bytes from the row's byte off on, then m more
+  one : (m off : ℕ) → off < LENGTH → take (suc m) (drop (i + off) t) ≡ byte t (i + off) ∷ take m (drop (i + (off + 1)) t)
+  one m off h = rw (drop-cons t (i + off) 0 (omega arith), ← add-one (i + off), add-assoc i off 1)
+
+  some : (n m off : ℕ) → off + n ≤ LENGTH → take (n + m) (drop (i + off) t) ≡ bytes n (number n t (i + off)) ++ take m (drop (i + (off + n)) t)
+  some n m off h = rw (take-add n m (drop (i + off) t), drop-drop n (i + off) t, add-assoc i off n, bytes-number n t (i + off) all (omega arith))
+
+  numbers : take 22 (drop (i + A) t) ≡ bytes 2 (number 2 t (i + A)) ++ (bytes 2 (number 2 t (i + B)) ++ (bytes 2 (number 2 t (i + C)) ++ (bytes 8 (number 8 t (i + K)) ++ bytes 8 (number 8 t (i + H)))))
+  numbers =
+      rw (
+        some 2 20 A (omega arith),
+        some 2 18 B (omega arith),
+        some 2 16 C (omega arith),
+        some 8 8 K (omega arith),
+        ← bytes-number 8 t (i + H) all (omega arith),
+      )
+
+  all-bytes : markWrong t i ≡ false → take LENGTH (drop i t) ≡ bytesOf (rowFrom t i)
+  unfolding bytesOf headOf rowFrom bytes
+  all-bytes mark =
+      let marks = mark-right t i mark in
+      let x = rowFrom t i in
+      ap (λ (k : ℕ). take 26 (drop k t)) (sym (add-zero i))
+      ∙ one 25 0 (omega arith)
+      ∙ ap₂ _∷_ (ap (byte t) (add-zero i) ∙ marks .0)
+      (one 24 1 (omega arith)
+      ∙ ap₂ _∷_ (marks .1)
+      (one 23 KIND (omega arith)
+      ∙ ap (λ (l : List ℕ). x .kind ∷ l)
+      (one 22 ZERO (omega arith)
+      ∙ ap₂ _∷_ (marks .2) numbers)))
+
+pub row-bytes : (t : List ℕ) → AllBytes t → (r : ℕ) → place r + LENGTH ≤ length t → markWrong t (place r) ≡ false → take LENGTH (drop (place r) t) ≡ bytesOf (rowAt t r)
+unfolding rowAt
+row-bytes t all r room mark = all-bytes t all (place r) room mark

@@ -1,0 +1,114 @@
+use borrow.Author.Needs.{needs}
+use Prim.Native.Nat.{_-_}
+use native.Mathlib.Omega.{arith}
+use Rattle.table.proofs.Heads.{long-head}
+use Rattle.table.proofs.Scan.{Scanning, Looking, entered, row-room, own-asked, looking, named-asked, looked, passed, passed-all, stopped-own, stopped-13, stopped-14, stopped-15}
+use Rattle.table.proofs.check_rows.Statement.{statement}
+use Rattle.table.proofs.check_rows.Tie as tie
+
+abbrev Inv-loop : tie.InvT-loop
+Inv-loop t w n r x u number mixed₀ f₀ mixed f = Looking t w n r x u mixed f
+
+abbrev μ-loop : tie.MeasureT-loop
+μ-loop t w n r x u number mixed₀ f₀ mixed f = 3 - f
+
+abbrev Inv-rows : tie.InvT-rows
+Inv-rows t w n r₀ r = Scanning t w n r
+
+abbrev μ-rows : tie.MeasureT-rows
+μ-rows t w n r₀ r = n - r
+
+width-of-requires : tie.Need-width-of-requires Inv-loop μ-loop Inv-rows μ-rows
+width-of-requires c κs = search long-head
+
+rows-of-requires : tie.Need-rows-of-requires Inv-loop μ-loop Inv-rows μ-rows
+rows-of-requires c κs = search long-head
+
+rows-holds : tie.Need-rows-holds Inv-loop μ-loop Inv-rows μ-rows
+rows-holds c = search entered
+
+decode-requires : tie.Need-decode-requires Inv-loop μ-loop Inv-rows μ-rows
+decode-requires c κs = search row-room
+
+of-requires : tie.Need-of-requires Inv-loop μ-loop Inv-rows μ-rows
+of-requires c κs = tt
+
+own-fault-requires : tie.Need-own-fault-requires Inv-loop μ-loop Inv-rows μ-rows
+own-fault-requires c κs = search own-asked
+
+loop-holds : tie.Need-loop-holds Inv-loop μ-loop Inv-rows μ-rows
+loop-holds c = search looking
+
+not-below-requires : tie.Need-not-below-requires Inv-loop μ-loop Inv-rows μ-rows
+not-below-requires c κs = search needs
+
+wrong-sort-requires : tie.Need-wrong-sort-requires Inv-loop μ-loop Inv-rows μ-rows
+wrong-sort-requires c κs =
+    named-asked _ _ _ _ _ _ _ _ (c .before .before .before .loop .inv) (c .before .before .loop-test .taken) (c .before .not-below .ensures) (c .if3 .left)
+
+add-f : tie.Need-add-f Inv-loop μ-loop Inv-rows μ-rows
+add-f c = omega arith
+
+loop-less : tie.Need-loop-less Inv-loop μ-loop Inv-rows μ-rows
+loop-less c = omega arith
+
+loop-again : tie.Need-loop-again Inv-loop μ-loop Inv-rows μ-rows
+loop-again c =
+    looked _ _ _ _ _ _ _ _ (c .before .before .before .before .loop .inv) (c .before .before .before .loop-test .taken) (c .before .before .not-below .ensures) (c .before .if3 .left) (c .wrong-sort .ensures)
+
+bounds-crossed-requires : tie.Need-bounds-crossed-requires Inv-loop μ-loop Inv-rows μ-rows
+bounds-crossed-requires c κs = tt
+
+add-r : tie.Need-add-r Inv-loop μ-loop Inv-rows μ-rows
+add-r c = omega arith
+
+rows-less : tie.Need-rows-less Inv-loop μ-loop Inv-rows μ-rows
+rows-less c = omega arith
+
+rows-again : tie.Need-rows-again Inv-loop μ-loop Inv-rows μ-rows
+rows-again c = search passed
+
+returns : tie.Need-returns Inv-loop μ-loop Inv-rows μ-rows
+returns c = search passed-all
+
+returns-2 : tie.Need-returns-2 Inv-loop μ-loop Inv-rows μ-rows
+returns-2 c = search stopped-own
+
+returns-3 : tie.Need-returns-3 Inv-loop μ-loop Inv-rows μ-rows
+returns-3 c = search stopped-13
+
+returns-4 : tie.Need-returns-4 Inv-loop μ-loop Inv-rows μ-rows
+returns-4 c = search stopped-14
+
+returns-5 : tie.Need-returns-5 Inv-loop μ-loop Inv-rows μ-rows
+returns-5 c = search stopped-15
+
+pub check-rows-spec : {M : Type 1} → statement M
+check-rows-spec =
+    tie.close
+    (tie.spec
+    Inv-loop
+    μ-loop
+    Inv-rows
+    μ-rows
+    width-of-requires
+    rows-of-requires
+    rows-holds
+    decode-requires
+    of-requires
+    own-fault-requires
+    loop-holds
+    not-below-requires
+    wrong-sort-requires
+    add-f
+    loop-less
+    loop-again
+    bounds-crossed-requires
+    add-r
+    rows-less
+    rows-again
+    returns
+    returns-2
+    returns-3
+    returns-4
+    returns-5)

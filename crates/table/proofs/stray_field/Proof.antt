@@ -1,0 +1,11 @@
+use mathlib.Core.Bool.{Bool·not-not}
+use Rattle.table.specs.Refusals.{strayField, anyField, isUsed, useAt, reference}
+use Rattle.table.proofs.stray_field.Statement.{statement}
+use Rattle.table.proofs.stray_field.Tie as tie
+
+returns : tie.Need-returns
+unfolding strayField anyField isUsed useAt reference
+returns c = simp Bool·not-not
+
+pub stray-field-spec : {M : Type 1} → statement M
+stray-field-spec = tie.close (tie.spec returns)

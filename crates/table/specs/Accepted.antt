@@ -1,0 +1,51 @@
+-- What an accepted table guarantees: the record that everything above rests on.
+use Prim.Native.Nat.{ℕ, _+_, _≤_, _<_, _^_}
+use mathlib.Core.Path.{_≡_}
+use mathlib.Core.Bool.{true, false}
+use mathlib.Core.List.{List}
+use lib.ListN.{length}
+use Rattle.row.specs.Names.{VAR, LENGTH, place}
+use Rattle.row.specs.Bytes.{rowAt, markWrong}
+use Rattle.row.specs.declared.Row.{Row}
+use Rattle.table.specs.declared.Uses.{Uses}
+use Rattle.table.specs.Uses.{sortOf, usesOf}
+use Rattle.table.specs.Refusals.{width, rows, MOST, headWrong, isUsed, useAt, reference, notBelow}
+
+-- row r of the table, which is x, and u, what its kind uses
+pub record GoodRow (t : List ℕ) (r : ℕ) (x : Row) (u : Uses) : Type 0 where
+  pub marked : markWrong t (place r) ≡ false
+  pub kind-low : 1 ≤ x .kind
+  pub kind-high : x .kind ≤ 9
+  pub unused-zero : (f : ℕ) → f < 3 → isUsed (useAt u f) ≡ false → reference x f ≡ 0
+  pub unused-k : u .k ≡ false → x .k ≡ 0
+  pub unused-h : u .h ≡ false → x .h ≡ 0
+  pub k-word : u .k ≡ true → x .k < 2 ^ width t
+  pub h-word : u .h ≡ true → x .h < 2 ^ width t
+  pub below : (f : ℕ) → f < 3 → isUsed (useAt u f) ≡ true → reference x f < r
+  pub sort : (f : ℕ) → f < 3 → isUsed (useAt u f) ≡ true → sortOf (rowAt t (reference x f) .kind) ≡ useAt u f
+  pub bounds : x .kind ≡ VAR → x .k ≤ x .h
+
+-- none of 1 to 5 holds
+pub record GoodHead (t : List ℕ) : Type 0 where
+  pub mark : headWrong t ≡ false
+  pub width-low : 1 ≤ width t
+  pub width-high : width t ≤ 64
+  pub few : rows t ≤ MOST
+  pub size : length t ≡ place (rows t)
+
+pub record Accepted (t : List ℕ) : Type 0 where
+  pub head : GoodHead t
+  pub row : (r : ℕ) → r < rows t → GoodRow t r (rowAt t r) (usesOf (rowAt t r .kind))
+
+-- what the check asks of a reference field f of row r before it looks at the row that it names
+pub record Named (t : List ℕ) (r : ℕ) (u : Uses) (x : Row) (f : ℕ) : Type 0 where
+  pub field : f < 3
+  pub below : notBelow r u x f ≡ false
+  pub within : place r ≤ length t
+
+-- what the check asks of row r, which is x, and of u and w before it looks at the row's own bytes
+pub record OwnAsked (t : List ℕ) (w r : ℕ) (u : Uses) (x : Row) : Type 0 where
+  pub is-width : w ≡ width t
+  pub width-high : w ≤ 64
+  pub is-uses : u ≡ usesOf (x .kind)
+  pub within : place r + LENGTH ≤ length t

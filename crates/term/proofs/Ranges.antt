@@ -1,0 +1,36 @@
+-- The range of a row is had from those of the rows that it names, and this settles it: what the store of ranges keeps, row after row.
+use Prim.Native.Nat.{ℕ, zero, suc, _<_}
+use native.Mathlib.Nat.{le-of-suc-le-suc, not-suc-le-zero, lt-of-lt-of-le, lt-trans, lt-suc-self}
+use mathlib.Core.Path.{_≡_, sym, _∙_}
+use Rattle.basis.proofs.Builds.{from-below}
+use Rattle.range.specs.declared.Range.{Range}
+use Rattle.term.specs.Term.{Term}
+use Rattle.term.specs.Relation.{rangeBy, rangeDown, rangeOf}
+use Rattle.term.proofs.Names.{NamesBelow, names-widen}
+use Rattle.term.proofs.Local.{range-by-local}
+
+module _ (M : ℕ) (f : ℕ → Term) (low : NamesBelow f) where
+  -- from x + 1 references down on, one more changes nothing
+  range-deep : (d e x : ℕ) → x < d → x < e → rangeDown M f d x ≡ rangeDown M f e x
+  unfolding rangeDown
+  range-deep zero e x l k = absurd (not-suc-le-zero l)
+  range-deep (suc d) zero x l k = absurd (not-suc-le-zero k)
+  range-deep (suc d) (suc e) x l k =
+      range-by-local M (rangeDown M f d) (rangeDown M f e) (f x)
+      (names-widen (f x)
+      (λ s y (h : y < x). range-deep d e y (lt-of-lt-of-le h (le-of-suc-le-suc l)) (lt-of-lt-of-le h (le-of-suc-le-suc k))) (low x))
+
+  pub range-eq : (x : ℕ) → rangeOf M f x ≡ rangeBy M (rangeOf M f) (f x)
+  unfolding rangeOf rangeDown
+  range-eq x =
+      range-by-local M (rangeDown M f x) (rangeOf M f) (f x)
+      (names-widen (f x) (λ s y (h : y < x). range-deep x (suc y) y h (lt-suc-self y)) (low x))
+
+  -- no other ranges have these equations, as far as they have them
+  pub range-only : (g : ℕ → Range) (n : ℕ) → ((x : ℕ) → x < n → g x ≡ rangeBy M g (f x)) → (x : ℕ) → x < n → g x ≡ rangeOf M f x
+  range-only g n made =
+      from-below (λ x. x < n → g x ≡ rangeOf M f x)
+      (λ x earlier l.
+      made x l ∙
+      range-by-local M g (rangeOf M f) (f x) (names-widen (f x) (λ s y (h : y < x). earlier y h (lt-trans h l)) (low x)) ∙
+      sym (range-eq x))

@@ -1,0 +1,20 @@
+-- Rows as terms, and the bytes that they stand in.
+use Prim.Native.Nat.{ℕ, zero, suc}
+use mathlib.Core.Bool.{Bool, cond}
+use mathlib.Core.List.{List}
+use Rattle.row.specs.declared.Row.{Row}
+use Rattle.row.specs.Bytes.{rowAt, putRow}
+use Rattle.term.specs.Term.{Term, termOf, rowOf}
+
+-- the rows of a table; past its end they are CONST 0
+unfoldable pub look : List ℕ → ℕ → Term
+look t x = termOf (rowAt t x)
+
+-- the buffer with x as its row r, where it is touched
+unfoldable pub putIf : Bool → ℕ → Row → List ℕ → List ℕ
+putIf touched r x buffer = cond touched (putRow buffer r x) buffer
+
+-- the buffer with each touched one of the first n rows of f in its place; all else stays
+unfoldable pub putRows : (ℕ → Bool) → (ℕ → Term) → ℕ → List ℕ → List ℕ
+putRows touched f zero buffer = buffer
+putRows touched f (suc n) buffer = putIf (touched n) n (rowOf (f n)) (putRows touched f n buffer)

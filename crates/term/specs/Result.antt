@@ -1,0 +1,29 @@
+-- The result of a table, and a kept result after an edit: one definition, of which a fresh run is the case that every row is touched.
+use Prim.Native.Nat.{ℕ}
+use mathlib.Core.Bool.{Bool, true, false, cond, not, _&&_, _||_}
+use lib.Dec.{eqb}
+use Rattle.basis.specs.Build.{grown}
+use Rattle.basis.specs.Count.{countWhere}
+use Rattle.term.specs.Term.{Term, isRead, anyNamed}
+use Rattle.term.specs.Relation.{rangeOf}
+use Rattle.term.specs.Rule.{rule}
+
+-- the result row of a term over the result rows f then standing, with their ranges
+unfoldable pub simplified : ℕ → ℕ → (ℕ → Term) → Term → Term
+simplified M limit f t = rule M limit f (rangeOf M f) t
+
+-- the rows of `kept`, with each touched row worked out anew in ascending order from the table t
+unfoldable pub renewed : ℕ → ℕ → (ℕ → Bool) → (ℕ → Term) → (ℕ → Term) → ℕ → Term
+renewed M limit touched t kept = grown (λ f x. cond (touched x) (simplified M limit f (t x)) (f x)) kept
+
+-- the result of the table t
+unfoldable pub result : ℕ → ℕ → (ℕ → Term) → ℕ → Term
+result M limit t = renewed M limit (λ x. true) t t
+
+-- row x is r, or leads back to r through one or more references
+unfoldable pub touchedBy : (ℕ → Term) → ℕ → ℕ → Bool
+touchedBy t r = grown (λ marked x. eqb x r || anyNamed marked (t x)) (λ x. false)
+
+-- of the first n rows, those that are READ in the table and not READ in the result
+unfoldable pub removedRows : (ℕ → Term) → (ℕ → Term) → ℕ → ℕ
+removedRows t f n = countWhere (λ x. isRead (t x) && not (isRead (f x))) n
