@@ -1,12 +1,14 @@
--- Counting the rows that pass a test. Assumes nothing.
-use mathlib.Core.Path.{_≡_, refl, ap₂, _∙_}
-use mathlib.Core.Bool.{Bool, true, false, cond}
+-- Counting the rows that pass a test, and whether one does. Assumes nothing.
+use mathlib.Core.Path.{_≡_, refl, ap₂, sym, _∙_}
+use mathlib.Core.Bool.{Bool, true, false, cond, true≢false}
+use mathlib.Core.Logic.{dite}
 use Prim.Native.Nat.{ℕ, zero, suc, _+_, _≤_, _<_}
 use native.Mathlib.Nat.{le-refl}
 use native.Mathlib.Numerals.{add-one}
 use native.Mathlib.Omega.{arith}
-use Rattle.basis.specs.Count.{countWhere}
-use Rattle.basis.proofs.Pick.{pick-case}
+use native.Mathlib.Decide.{decLt}
+use Rattle.basis.specs.Count.{countWhere, anyBelow}
+use Rattle.basis.proofs.Pick.{test-case, pick-case, or-true-left, or-true-right, or-false}
 
 pub count-zero : (test : ℕ → Bool) → countWhere test 0 ≡ 0
 unfolding countWhere
@@ -43,3 +45,23 @@ count-constant b test (suc n) h =
     (count-constant b test n (λ (x : ℕ) (l : x < n). h x (omega arith)))
     (h n (le-refl (suc n)))
     ∙ still b n
+
+-- none of the first 0 rows passes a test; one more row that fails it changes nothing; one that passes it decides
+pub any-zero : (test : ℕ → Bool) → anyBelow test 0 ≡ false
+unfolding anyBelow
+any-zero test = refl
+
+pub any-next : (test : ℕ → Bool) (n : ℕ) → anyBelow test n ≡ false → test n ≡ false → anyBelow test (n + 1) ≡ false
+unfolding anyBelow
+any-next test n e f = rw add-one (or-false (anyBelow test n) (test n) e f)
+
+pub any-here : (test : ℕ → Bool) (n x : ℕ) → x < n → test x ≡ true → anyBelow test n ≡ true
+unfolding anyBelow
+any-here test zero x l e = absurd (omega arith)
+any-here test (suc n) x l e =
+    dite (decLt x n)
+    (λ (h : x < n). or-true-left (anyBelow test n) (test n) (any-here test n x h e))
+    (λ (h : x < n → ⊥). let same : x ≡ n = omega arith in or-true-right (anyBelow test n) (test n) (rw same at e))
+
+pub any-none : (test : ℕ → Bool) (n : ℕ) → anyBelow test n ≡ false → (x : ℕ) → x < n → test x ≡ false
+any-none test n e x l = test-case (test x) (λ (t : test x ≡ true). absurd (true≢false (sym (any-here test n x l t) ∙ e))) (λ (t : test x ≡ false). t)

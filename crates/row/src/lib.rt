@@ -89,12 +89,12 @@ impl Row {
         ensures { λ r. ⌜ r ≡ row kind a b c k h ⌝ }
     {
         Row {
-            kind: kind,
-            a: a,
-            b: b,
-            c: c,
-            k: k,
-            h: h,
+            kind,
+            a,
+            b,
+            c,
+            k,
+            h,
         }
     }
 
@@ -175,6 +175,7 @@ fn eight(t: &[u8], i: usize) -> u64
     four(t, i) + 256 * 256 * 256 * 256 * four(t, i + 4)
 }
 
+// The number in the four bytes from i on.
 fn four(t: &[u8], i: usize) -> u64
     requires { ⌜ i + 4 ≤ length (now t) ⌝ }
     ensures { λ r. ⌜ Read (number 4 (now (t .entry)) i) (2 ^ 32) r ⌝ }

@@ -1,7 +1,7 @@
 -- The ways out of `own_fault`: 9 to 12 of one row, each over the facts that its place holds.
 use Prim.Native.Nat.{ℕ}
 use mathlib.Core.Path.{_≡_}
-use mathlib.Core.Bool.{Bool, true, false, not, _&&_}
+use mathlib.Core.Bool.{cond, Bool, true, false, not, _&&_}
 use mathlib.Core.List.{List}
 use lib.Dec.{leb}
 use lib.ListN.{take}
@@ -13,26 +13,24 @@ use Rattle.table.specs.declared.Uses.{Uses}
 use Rattle.table.specs.Refusals.{strayField, largeNumber, rowReasons}
 use Rattle.table.specs.Accepted.{OwnAsked}
 
-module _ (t : List ℕ) (w r : ℕ) (u : Uses) (x : Row) (asked : OwnAsked t w r u x) {mark : Bool} (mark-is : mark ≡ markWrong t (place r)) where
-  pub own-9 : mark ≡ true → 9 ≡ first (take 4 (rowReasons t r x))
+module _ (t : List ℕ) (w r : ℕ) (u : Uses) (x : Row) (asked : OwnAsked t w r u x)
+    {mark kind stray large : Bool} (mark-is : mark ≡ markWrong t (place r)) (kind-is : kind ≡ not (leb 1 (x .kind) && leb (x .kind) 9))
+    (stray-is : stray ≡ strayField u x) (large-is : large ≡ largeNumber w u x) where
+  own : first (take 4 (rowReasons t r x)) ≡ cond mark 9 (cond kind 10 (cond stray 11 (cond large 12 0)))
   unfolding first rowReasons
-  own-9 wrong = rw (← mark-is, wrong)
+  own = rw (← asked .is-uses, ← asked .is-width, ← mark-is, ← kind-is, ← stray-is, ← large-is)
 
-  module _ (marked : mark ≡ false) {kind : Bool} (kind-is : kind ≡ not (leb 1 (x .kind) && leb (x .kind) 9)) where
-    pub own-10 : kind ≡ true → 10 ≡ first (take 4 (rowReasons t r x))
-    unfolding first rowReasons
-    own-10 wrong = rw (← mark-is, marked, ← kind-is, wrong)
+  pub own-9 : mark ≡ true → 9 ≡ first (take 4 (rowReasons t r x))
+  own-9 wrong = rw (own, wrong)
 
-    module _ (known : kind ≡ false) {stray : Bool} (stray-is : stray ≡ strayField u x) where
-      pub own-11 : stray ≡ true → 11 ≡ first (take 4 (rowReasons t r x))
-      unfolding first rowReasons
-      own-11 wrong = rw (← mark-is, marked, ← kind-is, known, ← asked .is-uses, ← stray-is, wrong)
+  pub own-10 : mark ≡ false → kind ≡ true → 10 ≡ first (take 4 (rowReasons t r x))
+  own-10 marked wrong = rw (own, marked, wrong)
 
-      module _ (clean : stray ≡ false) {large : Bool} (large-is : large ≡ largeNumber w u x) where
-        pub own-12 : large ≡ true → 12 ≡ first (take 4 (rowReasons t r x))
-        unfolding first rowReasons
-        own-12 wrong = rw (← mark-is, marked, ← kind-is, known, ← asked .is-uses, ← stray-is, clean, ← asked .is-width, ← large-is, wrong)
+  pub own-11 : mark ≡ false → kind ≡ false → stray ≡ true → 11 ≡ first (take 4 (rowReasons t r x))
+  own-11 marked known wrong = rw (own, marked, known, wrong)
 
-        pub own-0 : large ≡ false → 0 ≡ first (take 4 (rowReasons t r x))
-        unfolding first rowReasons
-        own-0 small = rw (← mark-is, marked, ← kind-is, known, ← asked .is-uses, ← stray-is, clean, ← asked .is-width, ← large-is, small)
+  pub own-12 : mark ≡ false → kind ≡ false → stray ≡ false → large ≡ true → 12 ≡ first (take 4 (rowReasons t r x))
+  own-12 marked known clean wrong = rw (own, marked, known, clean, wrong)
+
+  pub own-0 : mark ≡ false → kind ≡ false → stray ≡ false → large ≡ false → 0 ≡ first (take 4 (rowReasons t r x))
+  own-0 marked known clean small = rw (own, marked, known, clean, small)

@@ -7,8 +7,7 @@ ghost use lib.Dec.{leb, eqb};
 ghost use Rattle.basis.specs.Reason.{first};
 ghost use Rattle.row.specs.Names.{HEADER, LENGTH, place};
 ghost use Rattle.row.specs.Bytes.{rowAt, Read};
-ghost use Rattle.table.specs.Uses;
-ghost use Rattle.table.specs.Uses.{sortOf, usesOf, ARRAY};
+ghost use Rattle.table.specs.Uses.{uses, sortOf, usesOf, ARRAY};
 ghost use Rattle.table.specs.Refusals.{
   width,
   rows,
@@ -50,81 +49,28 @@ impl Uses {
 
     pub const ARRAY: u8 = 2;
 
+    // What the five fields are used as.
+    fn make(a: u8, b: u8, c: u8, k: bool, h: bool) -> Uses
+        ensures { λ u. ⌜ u ≡ uses a b c k h ⌝ }
+    {
+        Uses { a, b, c, k, h }
+    }
+
     // The fields that a kind uses.
     pub fn of(kind: u8) -> Uses
         ensures { λ u. ⌜ u ≡ usesOf kind ⌝ }
     {
         match kind {
-            Row::CONST => Uses {
-                a: Uses::UNUSED,
-                b: Uses::UNUSED,
-                c: Uses::UNUSED,
-                k: true,
-                h: false,
-            },
-            Row::VAR => Uses {
-                a: Uses::UNUSED,
-                b: Uses::UNUSED,
-                c: Uses::UNUSED,
-                k: true,
-                h: true,
-            },
-            Row::SHIFT => Uses {
-                a: Uses::WORD,
-                b: Uses::UNUSED,
-                c: Uses::UNUSED,
-                k: true,
-                h: false,
-            },
-            Row::SUM => Uses {
-                a: Uses::WORD,
-                b: Uses::WORD,
-                c: Uses::UNUSED,
-                k: true,
-                h: false,
-            },
-            Row::DIFF => Uses {
-                a: Uses::WORD,
-                b: Uses::WORD,
-                c: Uses::UNUSED,
-                k: true,
-                h: false,
-            },
-            Row::NEG => Uses {
-                a: Uses::WORD,
-                b: Uses::UNUSED,
-                c: Uses::UNUSED,
-                k: true,
-                h: false,
-            },
-            Row::READ => Uses {
-                a: Uses::ARRAY,
-                b: Uses::WORD,
-                c: Uses::UNUSED,
-                k: false,
-                h: false,
-            },
-            Row::FRESH => Uses {
-                a: Uses::UNUSED,
-                b: Uses::UNUSED,
-                c: Uses::UNUSED,
-                k: false,
-                h: false,
-            },
-            Row::WRITE => Uses {
-                a: Uses::ARRAY,
-                b: Uses::WORD,
-                c: Uses::WORD,
-                k: false,
-                h: false,
-            },
-            0 | 10..=255 => Uses {
-                a: Uses::UNUSED,
-                b: Uses::UNUSED,
-                c: Uses::UNUSED,
-                k: false,
-                h: false,
-            },
+            Row::CONST => Uses::make(Uses::UNUSED, Uses::UNUSED, Uses::UNUSED, true, false),
+            Row::VAR => Uses::make(Uses::UNUSED, Uses::UNUSED, Uses::UNUSED, true, true),
+            Row::SHIFT => Uses::make(Uses::WORD, Uses::UNUSED, Uses::UNUSED, true, false),
+            Row::SUM => Uses::make(Uses::WORD, Uses::WORD, Uses::UNUSED, true, false),
+            Row::DIFF => Uses::make(Uses::WORD, Uses::WORD, Uses::UNUSED, true, false),
+            Row::NEG => Uses::make(Uses::WORD, Uses::UNUSED, Uses::UNUSED, true, false),
+            Row::READ => Uses::make(Uses::ARRAY, Uses::WORD, Uses::UNUSED, false, false),
+            Row::FRESH => Uses::make(Uses::UNUSED, Uses::UNUSED, Uses::UNUSED, false, false),
+            Row::WRITE => Uses::make(Uses::ARRAY, Uses::WORD, Uses::WORD, false, false),
+            0 | 10..=255 => Uses::make(Uses::UNUSED, Uses::UNUSED, Uses::UNUSED, false, false),
         }
     }
 }
@@ -283,16 +229,20 @@ fn own_fault(t: &[u8], w: u32, r: usize, u: Uses, x: Row) -> u64
     requires { ⌜ OwnAsked (now t) w r u x ⌝ }
     ensures { λ number. ⌜ number ≡ first (take 4 (rowReasons (now (t .entry)) r x)) ⌝ }
 {
-    if Row::mark_wrong(t, r) {
+    let mark = Row::mark_wrong(t, r);
+    let kind = kind_wrong(x.kind);
+    let stray = stray_field(u, x);
+    let large = large_number(w, u, x);
+    if mark {
         return 9;
     }
-    if kind_wrong(x.kind) {
+    if kind {
         return 10;
     }
-    if stray_field(u, x) {
+    if stray {
         return 11;
     }
-    if large_number(w, u, x) {
+    if large {
         return 12;
     }
     0
@@ -310,39 +260,28 @@ pub fn check_rows(t: &[u8]) -> Verdict
         if r == n {
             break 'rows Verdict { number: 0, row: 0 };
         }
+        let row = r as u64;
         let x = Row::decode(t, r);
         let u = Uses::of(x.kind);
         let number = own_fault(t, w, r, u, x);
         if number != 0 {
-            break 'rows Verdict {
-                number: number,
-                row: r as u64,
-            };
+            break 'rows Verdict { number, row };
         }
         // 13 of a later field goes before 14 of an earlier one
         let mut mixed = false;
         let mut f: usize = 0;
         while f < 3 {
             if not_below(r, u, x, f) {
-                break 'rows Verdict {
-                    number: 13,
-                    row: r as u64,
-                };
+                break 'rows Verdict { number: 13, row };
             }
             mixed = mixed | wrong_sort(t, r, u, x, f);
             f += 1;
         }
         if mixed {
-            break 'rows Verdict {
-                number: 14,
-                row: r as u64,
-            };
+            break 'rows Verdict { number: 14, row };
         }
         if bounds_crossed(x) {
-            break 'rows Verdict {
-                number: 15,
-                row: r as u64,
-            };
+            break 'rows Verdict { number: 15, row };
         }
         r += 1;
     }
@@ -354,10 +293,7 @@ pub fn check(t: &[u8]) -> Verdict
 {
     let number = head(t);
     if number != 0 {
-        return Verdict {
-            number: number,
-            row: 0,
-        };
+        return Verdict { number, row: 0 };
     }
     check_rows(t)
 }

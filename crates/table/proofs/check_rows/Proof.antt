@@ -7,10 +7,10 @@ use Rattle.table.proofs.check_rows.Statement.{statement}
 use Rattle.table.proofs.check_rows.Tie as tie
 
 abbrev Inv-loop : tie.InvT-loop
-Inv-loop t w n r x u number mixed₀ f₀ mixed f = Looking t w n r x u mixed f
+Inv-loop t w n r row x u number mixed₀ f₀ mixed f = Looking t w n r x u mixed f
 
 abbrev μ-loop : tie.MeasureT-loop
-μ-loop t w n r x u number mixed₀ f₀ mixed f = 3 - f
+μ-loop t w n r row x u number mixed₀ f₀ mixed f = 3 - f
 
 abbrev Inv-rows : tie.InvT-rows
 Inv-rows t w n r₀ r = Scanning t w n r

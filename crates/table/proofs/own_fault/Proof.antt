@@ -6,23 +6,23 @@ use Rattle.table.proofs.own_fault.Tie as tie
 mark-wrong-requires : tie.Need-mark-wrong-requires
 mark-wrong-requires c κs = search needs
 
-returns : tie.Need-returns
-returns c = search own-9
-
 kind-wrong-requires : tie.Need-kind-wrong-requires
 kind-wrong-requires c κs = search needs
-
-returns-2 : tie.Need-returns-2
-returns-2 c = search own-10
 
 stray-field-requires : tie.Need-stray-field-requires
 stray-field-requires c κs = search needs
 
-returns-3 : tie.Need-returns-3
-returns-3 c = search own-11
-
 large-number-requires : tie.Need-large-number-requires
 large-number-requires c κs = search needs
+
+returns : tie.Need-returns
+returns c = search own-9
+
+returns-2 : tie.Need-returns-2
+returns-2 c = search own-10
+
+returns-3 : tie.Need-returns-3
+returns-3 c = search own-11
 
 returns-4 : tie.Need-returns-4
 returns-4 c = search own-12
@@ -35,11 +35,11 @@ own-fault-spec =
     tie.close
     (tie.spec
     mark-wrong-requires
-    returns
     kind-wrong-requires
-    returns-2
     stray-field-requires
-    returns-3
     large-number-requires
+    returns
+    returns-2
+    returns-3
     returns-4
     returns-5)

@@ -1,0 +1,107 @@
+//! The tables that are measured.
+
+use second::bytes::table_bytes;
+use second::{Row, Width};
+use tables::random::Random;
+use tables::{chain, machine, wellformed};
+
+pub const SIZES: [usize; 4] = [16, 64, 256, 1024];
+
+#[derive(Clone, Copy)]
+pub enum Family {
+    Stack,
+    StackAndHeap,
+    Chain,
+}
+
+impl Family {
+    pub const ALL: [Family; 3] = [Family::Stack, Family::StackAndHeap, Family::Chain];
+
+    pub fn name(self) -> &'static str {
+        match self {
+            Family::Stack => "stack: calls, returns, locals",
+            Family::StackAndHeap => "stack and heap, some pointers read from memory",
+            Family::Chain => "one long chain of stores at one base, reads past them",
+        }
+    }
+
+    pub fn rows(self, width: Width, count: usize) -> Vec<Row> {
+        let mut random = Random::new(7);
+        let mut machine = |heap, pointers_one_in| {
+            let habits = machine::Habits { heap, pointers_one_in, careless: false };
+            machine::rows(&mut random, width, count, habits)
+        };
+        match self {
+            Family::Stack => machine(false, 0),
+            Family::StackAndHeap => machine(true, 40),
+            Family::Chain => chain::rows(width, count),
+        }
+    }
+}
+
+/// A table, its result, and the calls to measure on it.
+pub struct Subject {
+    pub rows: Vec<Row>,
+    pub table: Vec<u8>,
+    pub result: Vec<u8>,
+}
+
+/// An edit to repeat: two replacements in turn, so that each call changes something.
+pub struct Edit {
+    pub name: &'static str,
+    pub row: usize,
+    pub replacements: [Row; 2],
+}
+
+impl Subject {
+    pub fn new(family: Family, size: usize) -> Subject {
+        let width = Width::new(32).expect("a width");
+        Subject::of(width, family.rows(width, size))
+    }
+
+    /// Rows of every kind without a story.
+    pub fn mixed(seed: u64) -> Subject {
+        let width = Width::new(64).expect("a width");
+        Subject::of(width, wellformed::rows(&mut Random::new(seed), width, 1024))
+    }
+
+    fn of(width: Width, rows: Vec<Row>) -> Subject {
+        let table = table_bytes(width, &rows);
+        let mut result = vec![0; table.len()];
+        assert_eq!(second::run(&table, &mut result).refusal, 0);
+        Subject { rows, table, result }
+    }
+
+    /// The first row moves everything, a SHIFT in the middle what follows it, the last itself.
+    pub fn edits(&self) -> Vec<Edit> {
+        let mut edits = Vec::new();
+        match self.rows[0] {
+            Row::Var { low, high } if low < high => {
+                let replacements = [Row::Var { low: low + 1, high }, self.rows[0]];
+                edits.push(Edit { name: "edit first", row: 0, replacements });
+            }
+            _ => {}
+        }
+        let shift = |row: &usize| matches!(self.rows[*row], Row::Shift { .. });
+        if let Some(row) = (self.rows.len() / 2..self.rows.len()).find(shift) {
+            let Row::Shift { a, k } = self.rows[row] else { unreachable!("just found") };
+            let replacements = [Row::Shift { a, k: k ^ 1 }, self.rows[row]];
+            edits.push(Edit { name: "edit middle", row, replacements });
+        }
+        let last = self.rows.len() - 1;
+        let other = match self.rows[last].sort() {
+            second::Sort::Word => Row::Const { k: 1 },
+            second::Sort::Array => Row::Fresh,
+        };
+        edits.push(Edit { name: "edit last", row: last, replacements: [other, self.rows[last]] });
+        edits
+    }
+
+    /// The last two word rows.
+    pub fn compared(&self) -> [u64; 2] {
+        let mut words =
+            (0..self.rows.len()).rev().filter(|row| self.rows[*row].sort() == second::Sort::Word);
+        let second = words.next().expect("every family has words");
+        [words.next().unwrap_or(second) as u64, second as u64]
+    }
+}

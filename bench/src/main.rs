@@ -1,0 +1,134 @@
+//! The library beside the second program and beside plain C: time, growth, and stack.
+
+mod depth;
+mod families;
+mod plain;
+mod timing;
+
+use families::{Edit, Family, Subject, SIZES};
+use second::bytes::row_bytes;
+use std::hint::black_box;
+use stezkoun::numbers;
+
+type Call<'a> = Box<dyn FnMut() + 'a>;
+
+fn runs(subject: &Subject) -> Vec<Call<'_>> {
+    let table = &subject.table;
+    let [mut first, mut second, mut third] = [(); 3].map(|_| vec![0; table.len()]);
+    vec![
+        Box::new(move || {
+            black_box(numbers::run(black_box(table), &mut first));
+        }),
+        Box::new(move || {
+            black_box(second::run(black_box(table), &mut second));
+        }),
+        Box::new(move || {
+            black_box(plain::run(black_box(table), &mut third));
+        }),
+    ]
+}
+
+fn edits<'a>(subject: &Subject, edit: &Edit) -> Vec<Call<'a>> {
+    let replacements = edit.replacements.map(row_bytes);
+    let row = edit.row as u64;
+    let buffers = || (subject.table.clone(), subject.result.clone(), 0);
+    let (mut table, mut kept, mut turn) = buffers();
+    let (mut second_table, mut second_kept, mut second_turn) = buffers();
+    vec![
+        Box::new(move || {
+            let replacement = &replacements[turn];
+            black_box(numbers::edit(&mut table, &mut kept, row, replacement));
+            turn ^= 1;
+        }),
+        Box::new(move || {
+            let replacement = &replacements[second_turn];
+            black_box(second::edit(&mut second_table, &mut second_kept, row, replacement));
+            second_turn ^= 1;
+        }),
+    ]
+}
+
+fn comparisons(subject: &Subject) -> Vec<Call<'_>> {
+    let table = &subject.table;
+    let [mut one, mut other] = [(); 2].map(|_| vec![0; table.len()]);
+    let [first, second] = subject.compared();
+    vec![
+        Box::new(move || {
+            black_box(numbers::compare(table, &mut one, first, second));
+        }),
+        Box::new(move || {
+            black_box(second::compare(table, &mut other, first, second));
+        }),
+    ]
+}
+
+/// What is measured must be right.
+fn check(subject: &Subject) {
+    let mut results = [(); 2].map(|_| vec![0; subject.table.len()]);
+    let library = numbers::run(&subject.table, &mut results[0]);
+    let plain = plain::run(&subject.table, &mut results[1]);
+    assert_eq!(library, plain, "the library's and plain C's answers");
+    assert!(results.iter().all(|result| *result == subject.result), "a wrong result");
+    for edit in subject.edits() {
+        let (mut table, mut kept) = (subject.table.clone(), subject.result.clone());
+        for replacement in edit.replacements {
+            let answer =
+                numbers::edit(&mut table, &mut kept, edit.row as u64, &row_bytes(replacement));
+            assert_eq!(answer.refusal, 0, "{}", edit.name);
+        }
+        assert!(kept == subject.result, "{} and back again", edit.name);
+    }
+}
+
+/// One line; `before` is the library's figure at a quarter of the rows.
+fn line(name: &str, rows: usize, figures: &[f64], before: Option<f64>) {
+    let library = figures[0];
+    print!("  {name:<12} {rows:>5} {library:>12.0}");
+    for figure in &figures[1..] {
+        print!(" {figure:>12.0} {:>6.2}", library / figure);
+    }
+    if figures.len() == 2 {
+        print!(" {:>12} {:>6}", "-", "-");
+    }
+    print!(" {:>10.2}", rows as f64 / library * 1000.0);
+    match before {
+        Some(before) => println!(" {:>8.2}", library / before),
+        None => println!(" {:>8}", "-"),
+    }
+}
+
+fn main() {
+    let mut subjects: Vec<Subject> = (0..20).map(Subject::mixed).collect();
+    for size in SIZES {
+        subjects.extend(Family::ALL.map(|family| Subject::new(family, size)));
+    }
+    subjects.iter().for_each(check);
+
+    println!("ns a call, medians, width 32; a ratio above 1 says that the library is slower");
+    println!("growth: the library's cost as a multiple of its cost at a quarter of the rows");
+    for family in Family::ALL {
+        println!("\n{}", family.name());
+        println!(
+            "  {:<12} {:>5} {:>12} {:>12} {:>6} {:>12} {:>6} {:>10} {:>8}",
+            "call", "rows", "library", "second", "ratio", "plain C", "ratio", "Mrows/s", "growth"
+        );
+        let mut lines: Vec<(&str, usize, Vec<f64>)> = Vec::new();
+        for size in SIZES {
+            let subject = Subject::new(family, size);
+            lines.push(("run", size, timing::measured(&mut runs(&subject))));
+            for edit in subject.edits() {
+                lines.push((edit.name, size, timing::measured(&mut edits(&subject, &edit))));
+            }
+            lines.push(("compare", size, timing::measured(&mut comparisons(&subject))));
+        }
+        for name in ["run", "edit first", "edit middle", "edit last", "compare"] {
+            let mut before = None;
+            for (_, rows, figures) in lines.iter().filter(|line| line.0 == name) {
+                line(name, *rows, figures, before);
+                before = Some(figures[0]);
+            }
+        }
+    }
+    println!();
+    depth::print(&subjects);
+}

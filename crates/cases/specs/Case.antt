@@ -1,0 +1,78 @@
+-- What a case says of the definitions, and the test of it.
+use Prim.Native.Nat.{ℕ, zero, suc, _^_}
+use mathlib.Core.Bool.{Bool, true, false, _&&_}
+use mathlib.Core.List.{List, [], _∷_, _++_, map}
+use lib.ListN.{length, replicate}
+use lib.Dec.{eqb}
+use Rattle.range.specs.declared.Range.{Range}
+use Rattle.range.specs.Range.{span, negation}
+use Rattle.range.specs.Range as range
+use Rattle.row.specs.Bytes.{bytes, bytesOf}
+use Rattle.term.specs.Term.{Term, rowOf}
+use Rattle.simplify.specs.declared.Answer.{Answer}
+use Rattle.simplify.specs.Run.{runAnswer, runResult}
+use Rattle.simplify.specs.Edit.{edited, editAnswer, editTable, editKept}
+
+pub data Case : Type 0 where
+  -- at a width, a range plus a range is a range
+  plus : ℕ → Range → Range → Range → Case
+  -- at a width, a range negated is a range
+  negated : ℕ → Range → Range → Case
+  -- at a width, a table's fresh result; removed, touched
+  runs : ℕ → List Term → List Term → ℕ → ℕ → Case
+  -- at a width, a table, a row number and its replacement: the kept result after the edit; removed, touched
+  edits : ℕ → List Term → ℕ → Term → List Term → ℕ → ℕ → Case
+  -- the same, where the edit is refused: number, row
+  refuses : ℕ → List Term → ℕ → Term → ℕ → ℕ → Case
+
+sameRange : Range → Range → Bool
+sameRange a b = eqb (a .lo) (b .lo) && eqb (a .hi) (b .hi)
+
+sameBytes : List ℕ → List ℕ → Bool
+sameBytes [] [] = true
+sameBytes [] (b ∷ bs) = false
+sameBytes (a ∷ rest) [] = false
+sameBytes (a ∷ rest) (b ∷ bs) = eqb a b && sameBytes rest bs
+
+answers : Answer → ℕ → ℕ → ℕ → ℕ → Bool
+answers a refusal row removed touched =
+    eqb (a .refusal) refusal && eqb (a .row) row && eqb (a .removed) removed && eqb (a .touched) touched
+
+rowsOf : List Term → List ℕ
+rowsOf [] = []
+rowsOf (t ∷ ts) = bytesOf (rowOf t) ++ rowsOf ts
+
+-- the bytes of a table
+tableOf : ℕ → List Term → List ℕ
+tableOf w ts = (0x46 ∷ 0x54 ∷ w ∷ 0 ∷ []) ++ bytes 2 (length ts) ++ rowsOf ts
+
+-- a buffer as long as a table
+room : List ℕ → List ℕ
+room t = replicate (length t) 0
+
+runsTo : List ℕ → List ℕ → ℕ → ℕ → Bool
+runsTo t f removed touched = answers (runAnswer t (room t)) 0 0 removed touched && sameBytes (runResult t (room t)) f
+
+-- the edit of a table with its own kept result
+editsTo : List ℕ → ℕ → List ℕ → List ℕ → ℕ → ℕ → Bool
+editsTo t r x f removed touched =
+    let kept = runResult t (room t) in
+    answers (editAnswer t kept r x) 0 0 removed touched && sameBytes (editTable t kept r x) (edited t r x) && sameBytes (editKept t kept r x) f
+
+-- refused, and nothing is changed
+refusesBy : List ℕ → ℕ → List ℕ → ℕ → ℕ → Bool
+refusesBy t r x number row =
+    let kept = runResult t (room t) in
+    answers (editAnswer t kept r x) number row 0 0 && sameBytes (editTable t kept r x) t && sameBytes (editKept t kept r x) kept
+
+unfoldable pub holds : Case → Bool
+unfolding sameRange sameBytes answers rowsOf tableOf room runsTo editsTo refusesBy
+holds (plus w a b c) = sameRange (range.sum (2 ^ w) a b) c
+holds (negated w a b) = sameRange (negation (2 ^ w) a) b
+holds (runs w t f removed touched) = runsTo (tableOf w t) (tableOf w f) removed touched
+holds (edits w t r x f removed touched) = editsTo (tableOf w t) r (bytesOf (rowOf x)) (tableOf w f) removed touched
+holds (refuses w t r x number row) = refusesBy (tableOf w t) r (bytesOf (rowOf x)) number row
+
+unfoldable pub allHold : List Case → Bool
+allHold [] = true
+allHold (c ∷ cs) = holds c && allHold cs

@@ -1,0 +1,51 @@
+-- P1 to P10.
+use Prim.Native.Nat.{ℕ, _-_, _^_}
+use mathlib.Core.List.{List, [], _∷_}
+use Rattle.range.specs.Range.{span}
+use Rattle.term.specs.Term.{Term, const, var, shift, sum, diff, neg, read, fresh, write}
+use Rattle.cases.specs.Case.{Case, plus, negated, runs, edits, refuses}
+
+-- the table of P1
+unfoldable pub p1 : List Term
+p1 = var 0 200 250 ∷ fresh ∷ shift 0 248 ∷ const 7 ∷ write 1 2 3 ∷ shift 0 224 ∷ shift 5 24 ∷ read 4 6 ∷ read 4 7 ∷ []
+
+unfoldable pub cases : List Case
+cases =
+    -- P1
+    runs 8 p1
+    (var 0 200 250 ∷ fresh ∷ shift 0 248 ∷ const 7 ∷ write 1 2 3 ∷ shift 0 224 ∷ shift 0 248 ∷ const 7 ∷ read 1 7 ∷ [])
+    1 9 ∷
+    -- P2
+    edits 8 p1 0 (var 0 0 250)
+    (var 0 0 250 ∷ fresh ∷ shift 0 248 ∷ const 7 ∷ write 1 2 3 ∷ shift 0 224 ∷ shift 0 248 ∷ const 7 ∷ read 4 7 ∷ [])
+    1 7 ∷
+    -- P3
+    refuses 8 p1 1 (const 0) 14 4 ∷
+    -- P4
+    runs 8 [] [] 0 0 ∷
+    -- P5
+    plus 8 (span 0 254) (span 1 1) (span 1 255) ∷
+    plus 8 (span 0 255) (span 1 1) (span 0 255) ∷
+    -- P6
+    plus 8 (span 255 255) (span 1 1) (span 0 0) ∷
+    plus 8 (span 254 255) (span 1 1) (span 0 255) ∷
+    -- P7
+    negated 8 (span 0 0) (span 0 0) ∷
+    negated 8 (span 1 5) (span 251 255) ∷
+    negated 8 (span 0 5) (span 0 255) ∷
+    -- P8: (x + 5) - (x + 3), and reversed
+    runs 8
+    (var 0 0 255 ∷ shift 0 5 ∷ shift 0 3 ∷ diff 1 2 0 ∷ diff 2 1 0 ∷ [])
+    (var 0 0 255 ∷ shift 0 5 ∷ shift 0 3 ∷ const 2 ∷ const 254 ∷ [])
+    0 5 ∷
+    -- P9
+    runs 64
+    (var 0 0 (2 ^ 64 - 1) ∷ shift 0 (2 ^ 64 - 1) ∷ shift 1 1 ∷ [])
+    (var 0 0 (2 ^ 64 - 1) ∷ shift 0 (2 ^ 64 - 1) ∷ shift 0 0 ∷ [])
+    0 3 ∷
+    -- P10
+    runs 8
+    (fresh ∷ var 0 0 255 ∷ const 1 ∷ const 2 ∷ write 0 1 2 ∷ write 4 1 3 ∷ [])
+    (fresh ∷ var 0 0 255 ∷ const 1 ∷ const 2 ∷ write 0 1 2 ∷ write 0 1 3 ∷ [])
+    0 6 ∷
+    []

@@ -1,0 +1,119 @@
+-- Demand 3, of bytes: after an accepted edit a kept result that was the table's own is, byte for byte, what a fresh run of the edited table leaves there, and is
+-- the edited table's own; so after any number of accepted edits. A row that is not r and does not lead back to r keeps its bytes, in any kept result.
+use Prim.Native.Nat.{ℕ, _≤_, _<_}
+use mathlib.Core.Path.{_≡_, refl, ap, sym, _∙_}
+use mathlib.Core.Bool.{true, false, cond}
+use mathlib.Core.Logic.{_⊎_, ⊎-elim}
+use mathlib.Core.List.{List}
+use lib.ListN.{length, take, drop}
+use lib.Seq.{sets, length-sets}
+use Rattle.basis.specs.Reason.{first}
+use Rattle.basis.proofs.Pick.{pick-true, test-case}
+use Rattle.row.specs.Names.{HEADER, place}
+use Rattle.row.proofs.Places.{header-below}
+use Rattle.row.proofs.Rows.{take-stays}
+use Rattle.table.specs.Refusals.{rows, refuse, accepted, checkTable}
+use Rattle.table.specs.Accepted.{Accepted}
+use Rattle.table.proofs.Accepts.{accepted-gives}
+use Rattle.term.specs.Leads.{LeadsBack}
+use Rattle.term.specs.Result.{touchedBy}
+use Rattle.term.specs.Bytes.{look, putRows}
+use Rattle.term.proofs.WellFormed.{formed-below}
+use Rattle.term.proofs.Touched.{touched-is}
+use Rattle.term.proofs.Accepted.{accepted-formed}
+use Rattle.term.proofs.There.{rowBytes, rows-stay}
+use Rattle.simplify.specs.Answer.{isAccepted}
+use Rattle.simplify.specs.Run.{roomReasons, runVerdict, freshRows, freshBytes, runResult}
+use Rattle.simplify.specs.Edit.{edited, editVerdict, editedRows, editedBytes, editTable, editKept}
+use Rattle.simplify.proofs.Verdicts.{table-passes, head-same}
+use Rattle.simplify.proofs.Granted.{run-granted, grant-run, EditGranted, edit-granted}
+use Rattle.demands.specs.Own.{Own, Edits, none, one}
+use Rattle.demands.proofs.Fresh.{fresh-head, fresh-length, fresh-there, fresh-again}
+use Rattle.demands.proofs.EditIsRun.{edited-bytes}
+
+-- an accepted run leaves the fresh result, which is the table's own
+run-leaves : (t buffer : List ℕ) → isAccepted (runVerdict t buffer) ≡ true → runResult t buffer ≡ freshBytes t buffer
+unfolding runResult
+run-leaves t buffer granted = pick-true (isAccepted (runVerdict t buffer)) _ _ granted
+
+fresh-owned : (t buffer : List ℕ) → checkTable t ≡ accepted → length t ≤ length buffer → Own t (freshBytes t buffer)
+fresh-owned t buffer passes room =
+    let ok : Accepted t = accepted-gives t passes in
+    let granted : isAccepted (runVerdict t (freshBytes t buffer)) ≡ true = grant-run t (freshBytes t buffer) passes (rw (fresh-length t buffer ok room) room) in
+    record {
+      accepted = granted;
+      settled =
+          run-leaves t (freshBytes t buffer) granted ∙
+          fresh-again t (freshBytes t buffer) (fresh-head t buffer ok room) (fresh-there t buffer ok room);
+    }
+
+pub run-owned : (t buffer : List ℕ) → isAccepted (runVerdict t buffer) ≡ true → Own t (runResult t buffer)
+run-owned t buffer granted =
+    rw (run-leaves t buffer granted) (fresh-owned t buffer (run-granted t buffer granted .table) (run-granted t buffer granted .roomy .room))
+
+-- the edit of row r, accepted
+module _ (t kept : List ℕ) (r : ℕ) (replacement : List ℕ) (granted : isAccepted (editVerdict t kept r replacement) ≡ true) where
+  abbrev e : List ℕ
+  e = edited t r replacement
+
+  is : EditGranted t kept r replacement
+  is = edit-granted t kept r replacement granted
+
+  long : length e ≡ length t
+  unfolding edited
+  long = length-sets t (place r) replacement
+
+  same-head : take HEADER e ≡ take HEADER t
+  unfolding edited
+  same-head = take-stays t r replacement (is .ready .long) HEADER (header-below r)
+
+  passes : checkTable e ≡ accepted
+  unfolding accepted refuse
+  passes = table-passes e accepted (head-same e t long same-head ∙ is .ready .roomy .head) (ap (λ v. v .number) (is .rows-pass))
+
+  ok : Accepted e
+  ok = accepted-gives e passes
+
+  table-left : editTable t kept r replacement ≡ e
+  unfolding editTable
+  table-left = pick-true (isAccepted (editVerdict t kept r replacement)) _ _ granted
+
+  kept-left : editKept t kept r replacement ≡ editedBytes e r kept
+  unfolding editKept
+  kept-left = pick-true (isAccepted (editVerdict t kept r replacement)) _ _ granted
+
+  -- a row that is not r and does not lead back to r
+  pub others-stay : (x : ℕ) → (x ≡ r → ⊥) → (LeadsBack (look (editTable t kept r replacement)) r x → ⊥) → rowBytes (editKept t kept r replacement) x ≡ rowBytes kept x
+  unfolding editedBytes
+  others-stay x other apart =
+      ap (λ (l : List ℕ). rowBytes l x) kept-left ∙
+      rows-stay (editedRows e r kept) (touchedBy (look e) r) (rows e) kept x
+      (test-case (touchedBy (look e) r x)
+      (λ (h : touchedBy (look e) r x ≡ true).
+      absurd (⊎-elim other (rw table-left at apart) (touched-is (look e) r (formed-below _ (look e) (accepted-formed e ok)) x h)))
+      (λ (h : touchedBy (look e) r x ≡ false). h))
+
+  module _ (own : Own t kept) where
+    settled : freshBytes t kept ≡ kept
+    settled = sym (run-leaves t kept (own .accepted)) ∙ own .settled
+
+    fresh-left : editKept t kept r replacement ≡ freshBytes e kept
+    fresh-left =
+        kept-left ∙
+        edited-bytes t kept r replacement (is .ready .long) (accepted-gives t (run-granted t kept (own .accepted) .table)) ok (is .ready .roomy .room) settled
+
+    room : length e ≤ length kept
+    room = rw long (is .ready .roomy .room)
+
+    -- byte for byte what a fresh run of the edited table leaves there
+    pub edit-is-fresh-run : editKept t kept r replacement ≡ runResult (editTable t kept r replacement) kept
+    edit-is-fresh-run = rw table-left (fresh-left ∙ sym (run-leaves e kept (grant-run e kept passes room)))
+
+    -- and so the edited table's own
+    pub edit-owned : Own (editTable t kept r replacement) (editKept t kept r replacement)
+    edit-owned = rw (table-left, fresh-left) (fresh-owned e kept passes room)
+
+-- after any number of accepted edits
+pub edits-owned : {t kept t′ kept′ : List ℕ} → Edits t kept t′ kept′ → Own t kept → Own t′ kept′
+edits-owned none own = own
+edits-owned (one {t} {kept} r replacement granted later) own = edits-owned later (edit-owned t kept r replacement granted own)

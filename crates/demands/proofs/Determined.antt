@@ -1,0 +1,20 @@
+-- No second outcome satisfies the promise of a public function: answer and buffers are determined by the input.
+use Prim.Native.Nat.{ℕ}
+use mathlib.Core.Path.{_≡_, sym, _∙_}
+use mathlib.Core.List.{List}
+use Rattle.simplify.specs.declared.Answer.{Answer}
+use Rattle.simplify.specs.declared.Comparison.{Comparison}
+use Rattle.simplify.specs.Run.{Ran}
+use Rattle.simplify.specs.Edit.{Edited}
+use Rattle.simplify.specs.Compare.{Compared}
+
+pub run-determined : {t buffer : List ℕ} {a a′ : Answer} {left left′ : List ℕ} → Ran t buffer a left → Ran t buffer a′ left′ → (a ≡ a′) × (left ≡ left′)
+run-determined p q = (p .answer-is ∙ sym (q .answer-is), p .result-is ∙ sym (q .result-is))
+
+pub edit-determined : {t kept : List ℕ} {r : ℕ} {new : List ℕ} {a a′ : Answer} {table table′ left left′ : List ℕ} →
+    Edited t kept r new a table left → Edited t kept r new a′ table′ left′ → (a ≡ a′) × (table ≡ table′) × (left ≡ left′)
+edit-determined p q = (p .answer-is ∙ sym (q .answer-is), p .table-is ∙ sym (q .table-is), p .kept-is ∙ sym (q .kept-is))
+
+pub compare-determined : {t buffer : List ℕ} {x y : ℕ} {a a′ : Comparison} {left left′ : List ℕ} →
+    Compared t buffer x y a left → Compared t buffer x y a′ left′ → (a ≡ a′) × (left ≡ left′)
+compare-determined p q = (p .answer-is ∙ sym (q .answer-is), p .result-is ∙ sym (q .result-is))

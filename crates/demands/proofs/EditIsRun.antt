@@ -1,0 +1,95 @@
+-- An edit of a table with its own kept result leaves what a fresh run of the edited table leaves.
+use Prim.Native.Nat.{ℕ, _^_, _≤_, _<_}
+use mathlib.Core.Path.{_≡_, refl, ap, sym, fun-ext, _∙_}
+use mathlib.Core.Bool.{Bool, true, false}
+use mathlib.Core.List.{List}
+use lib.ListN.{length, take}
+use Rattle.basis.proofs.Pick.{test-case}
+use Rattle.row.specs.Names.{HEADER, LENGTH, place}
+use Rattle.row.specs.Bytes.{bytesOf}
+use Rattle.row.proofs.Places.{header-below}
+use Rattle.row.proofs.Rows.{row-stays, take-stays}
+use Rattle.table.specs.Refusals.{width, rows}
+use Rattle.table.specs.Accepted.{Accepted}
+use Rattle.term.specs.Term.{Term, rowOf, termOf}
+use Rattle.term.specs.Result.{renewed, result, touchedBy}
+use Rattle.term.specs.Bytes.{look, putRows}
+use Rattle.term.proofs.Names.{NamesBelow}
+use Rattle.term.proofs.WellFormed.{formed-below}
+use Rattle.term.proofs.Edit.{untouched-result, edit-is-run}
+use Rattle.term.proofs.Placed.{put-rows-same}
+use Rattle.term.proofs.There.{rowBytes, rows-alike}
+use Rattle.term.proofs.Accepted.{accepted-formed}
+use Rattle.term.proofs.Acceptable.{same-width, same-rows}
+use Rattle.term.proofs.Outcome.{run-look}
+use Rattle.simplify.specs.Answer.{modulus, LIMIT}
+use Rattle.simplify.specs.Run.{freshRows, freshBytes}
+use Rattle.simplify.specs.Edit.{edited, keptPart, editedRows, editedBytes}
+use Rattle.demands.proofs.Fresh.{head-there, fresh-head, fresh-there}
+
+module _ (t kept : List ℕ) (r : ℕ) (new : List ℕ) (long : length new ≡ LENGTH) (ok : Accepted t) (ok′ : Accepted (edited t r new)) (room : length t ≤ length kept)
+    (own : freshBytes t kept ≡ kept) where
+  abbrev pub e : List ℕ
+  e = edited t r new
+
+  pub same-head : take HEADER e ≡ take HEADER t
+  unfolding edited
+  same-head = take-stays t r new long HEADER (header-below r)
+
+  alike : (x : ℕ) → (x ≡ r → ⊥) → look t x ≡ look e x
+  unfolding look edited
+  alike x other = sym (ap termOf (row-stays t r new long x other))
+
+  pub rows-same : rows e ≡ rows t
+  rows-same = same-rows e t same-head
+
+  modulus-same : modulus e ≡ modulus t
+  unfolding modulus
+  modulus-same = ap (λ (w : ℕ). 2 ^ w) (same-width e t same-head)
+
+  below : NamesBelow (look t)
+  below = formed-below (2 ^ width t) (look t) (accepted-formed t ok)
+
+  below′ : NamesBelow (look e)
+  below′ = formed-below (2 ^ width e) (look e) (accepted-formed e ok′)
+
+  kept-head : take HEADER kept ≡ take HEADER t
+  kept-head = ap (take HEADER) (sym own) ∙ fresh-head t kept ok room
+
+  kept-rows : putRows (λ x. true) (freshRows t) (rows t) kept ≡ kept
+  unfolding freshBytes
+  kept-rows = ap (putRows (λ x. true) (freshRows t) (rows t)) (sym (head-there t kept kept-head)) ∙ own
+
+  -- the rows of the kept result are those of the fresh result
+  part-look : (x : ℕ) → look (keptPart e kept) x ≡ freshRows t x
+  unfolding keptPart freshRows modulus
+  part-look x =
+      ap (λ (n : ℕ). look (take (place n) kept) x) rows-same ∙
+      ap (λ (l : List ℕ). look (take (place (rows t)) l) x) (sym kept-rows) ∙
+      run-look LIMIT t kept ok (rw (← ok .head .size) room) kept-head x
+
+  same-rules : (x : ℕ) → freshRows t x ≡ result (modulus e) LIMIT (look t) x
+  unfolding freshRows
+  same-rules x = ap (λ (M : ℕ). result M LIMIT (look t) x) (sym modulus-same)
+
+  pub untouched-fresh : (x : ℕ) → touchedBy (look e) r x ≡ false → freshRows t x ≡ freshRows e x
+  unfolding freshRows
+  untouched-fresh x h = same-rules x ∙ untouched-result (modulus e) LIMIT (look t) (look e) r alike below below′ x h
+
+  pub edited-rows : (x : ℕ) → editedRows e r kept x ≡ freshRows e x
+  unfolding editedRows freshRows
+  edited-rows x =
+      ap (λ (f : ℕ → Term). renewed (modulus e) LIMIT (touchedBy (look e) r) (look e) f x) (fun-ext (λ (y : ℕ). part-look y ∙ same-rules y)) ∙
+      edit-is-run (modulus e) LIMIT (look t) (look e) r alike below below′ x
+
+  pub edited-bytes : editedBytes e r kept ≡ freshBytes e kept
+  unfolding editedBytes freshBytes
+  edited-bytes =
+      put-rows-same (touchedBy (look e) r) (touchedBy (look e) r) (editedRows e r kept) (freshRows e) (rows e) kept (λ x l. refl) (λ x l. edited-rows x) ∙
+      rows-alike (freshRows e) (touchedBy (look e) r) (λ x. true) (rows e) kept there ∙
+      ap (putRows (λ x. true) (freshRows e) (rows e)) (sym (head-there e kept (kept-head ∙ sym same-head)))
+    where
+      there : (x : ℕ) → x < rows e → (touchedBy (look e) r x ≡ true → ⊥) → rowBytes kept x ≡ bytesOf (rowOf (freshRows e x))
+      there x l other =
+          ap (λ (b : List ℕ). rowBytes b x) (sym own) ∙ fresh-there t kept ok room x (rw rows-same at l) ∙
+          ap (λ (u : Term). bytesOf (rowOf u)) (untouched-fresh x (test-case (touchedBy (look e) r x) (λ h. absurd (other h)) (λ h. h)))

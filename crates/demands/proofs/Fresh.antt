@@ -1,0 +1,71 @@
+-- What a fresh run leaves: the table's header, and the rows of its result, each in its place. A second run into it changes nothing.
+use Prim.Native.Nat.{ℕ, _+_, _≤_, _<_}
+use native.Mathlib.Nat.{zero-add}
+use native.Mathlib.Omega.{arith}
+use mathlib.Core.Path.{_≡_, refl, ap, sym, _∙_}
+use mathlib.Core.Bool.{true, false}
+use mathlib.Core.List.{List}
+use lib.ListN.{length, take, drop}
+use lib.Seq.{sets, sets-eq, length-sets, length-take-le, take-at}
+use Rattle.row.specs.Names.{HEADER, place}
+use Rattle.row.specs.Bytes.{bytesOf}
+use Rattle.row.proofs.Places.{header-below}
+use Rattle.row.proofs.Sets.{sets-same}
+use Rattle.table.specs.Refusals.{rows}
+use Rattle.table.specs.Accepted.{Accepted}
+use Rattle.term.specs.Term.{rowOf}
+use Rattle.term.specs.Bytes.{look, putRows}
+use Rattle.term.proofs.Placed.{length-put-rows, put-rows-head}
+use Rattle.term.proofs.There.{rowBytes, rows-there, rows-alike, none-touched}
+use Rattle.term.proofs.Outcome.{run-look}
+use Rattle.simplify.specs.Answer.{modulus, LIMIT}
+use Rattle.simplify.specs.Run.{freshRows, freshBytes}
+
+-- a header copied is there
+pub head-copied : (t buffer : List ℕ) → HEADER ≤ length t → HEADER ≤ length buffer → take HEADER (sets buffer 0 (take HEADER t)) ≡ take HEADER t
+head-copied t buffer h room =
+    let long : length (take HEADER t) ≡ HEADER = length-take-le HEADER t h in
+    ap (take HEADER) (sets-eq (take HEADER t) buffer 0 (rw (long, zero-add) room)) ∙ take-at (take HEADER t) (drop (0 + length (take HEADER t)) buffer) HEADER long
+
+-- a header that is there already
+pub head-there : (t kept : List ℕ) → take HEADER kept ≡ take HEADER t → sets kept 0 (take HEADER t) ≡ kept
+head-there t kept e = ap (sets kept 0) (sym e) ∙ sets-same kept 0 HEADER
+
+module _ (t buffer : List ℕ) (ok : Accepted t) (room : length t ≤ length buffer) where
+  size : length t ≡ place (rows t)
+  size = ok .head .size
+
+  header-fits : HEADER ≤ length t
+  header-fits = rw size (header-below (rows t))
+
+  pub fresh-head : take HEADER (freshBytes t buffer) ≡ take HEADER t
+  unfolding freshBytes
+  fresh-head =
+      put-rows-head (λ x. true) (freshRows t) (rows t) (sets buffer 0 (take HEADER t)) ∙
+      head-copied t buffer header-fits (let h : HEADER ≤ length t = header-fits in omega arith)
+
+  pub fresh-length : length (freshBytes t buffer) ≡ length buffer
+  unfolding freshBytes
+  fresh-length = length-put-rows (λ x. true) (freshRows t) (rows t) (sets buffer 0 (take HEADER t)) ∙ length-sets buffer 0 (take HEADER t)
+
+  -- each row of the fresh result stands there
+  pub fresh-there : (x : ℕ) → x < rows t → rowBytes (freshBytes t buffer) x ≡ bytesOf (rowOf (freshRows t x))
+  unfolding freshBytes
+  fresh-there x l =
+      rows-there (freshRows t) (λ y. true) (rows t) (sets buffer 0 (take HEADER t)) (rw length-sets (rw (← size) room)) x l refl
+
+  -- and is looked up there
+  pub fresh-look : (x : ℕ) → look (take (length t) (freshBytes t buffer)) x ≡ freshRows t x
+  unfolding freshBytes freshRows modulus
+  fresh-look x =
+      rw size
+      (run-look LIMIT t (sets buffer 0 (take HEADER t)) ok (rw length-sets (rw (← size) room))
+      (head-copied t buffer header-fits (let h : HEADER ≤ length t = header-fits in omega arith)) x)
+
+-- a buffer that has the header and the rows of a fresh result: a fresh run into it changes nothing
+pub fresh-again : (t kept : List ℕ) → take HEADER kept ≡ take HEADER t → ((x : ℕ) → x < rows t → rowBytes kept x ≡ bytesOf (rowOf (freshRows t x))) → freshBytes t kept ≡ kept
+unfolding freshBytes
+fresh-again t kept head there =
+    ap (putRows (λ x. true) (freshRows t) (rows t)) (head-there t kept head) ∙
+    rows-alike (freshRows t) (λ x. true) (λ x. false) (rows t) kept (λ x l other. there x l) ∙
+    none-touched (freshRows t) (rows t) kept

@@ -1,0 +1,7 @@
+-- The demands, of bytes. `Demand1`, `Demand2`, `Demand3` and `Determined` have what is promised, the others what it rests on.
+pub mod Fresh
+pub mod EditIsRun
+pub mod Demand1
+pub mod Demand2
+pub mod Demand3
+pub mod Determined

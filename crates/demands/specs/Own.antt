@@ -1,0 +1,26 @@
+-- What the demands speak of: the rows that a result slice holds, and a kept result that is the table's own.
+use Prim.Native.Nat.{ℕ}
+use mathlib.Core.Path.{_≡_}
+use mathlib.Core.Bool.{true}
+use mathlib.Core.List.{List, [], _∷_}
+use lib.ListN.{length, take}
+use Rattle.term.specs.Term.{Term}
+use Rattle.term.specs.Bytes.{look}
+use Rattle.simplify.specs.Answer.{isAccepted}
+use Rattle.simplify.specs.Run.{runVerdict, runResult}
+use Rattle.simplify.specs.Edit.{editVerdict, editTable, editKept}
+
+-- the rows of a result: those in its first 6 + 26n bytes
+unfoldable pub rowsIn : List ℕ → List ℕ → ℕ → Term
+rowsIn t buffer = look (take (length t) buffer)
+
+-- a kept result is the table's own where a fresh run of the table into it is accepted and changes no byte of it
+pub record Own (t kept : List ℕ) : Type 0 where
+  pub accepted : isAccepted (runVerdict t kept) ≡ true
+  pub settled : runResult t kept ≡ kept
+
+-- edits in a row, each accepted: from a table and a kept result to what they are in the end
+pub data Edits : List ℕ → List ℕ → List ℕ → List ℕ → Type 0 where
+  none : {t kept : List ℕ} → Edits t kept t kept
+  one : {t kept t′ kept′ : List ℕ} (r : ℕ) (replacement : List ℕ) → isAccepted (editVerdict t kept r replacement) ≡ true →
+      Edits (editTable t kept r replacement) (editKept t kept r replacement) t′ kept′ → Edits t kept t′ kept′

@@ -1,0 +1,148 @@
+-- The walk, step by step: what is left to walk gives the whole walk's landing. Assumes nothing.
+use Prim.Native.Nat.{ℕ, zero, suc, _+_, _-_, _≤_, _<_}
+use native.Mathlib.Omega.{arith}
+use mathlib.Core.Path.{_≡_, refl, sym, ap, _∙_}
+use mathlib.Core.List.{List}
+use Rattle.range.specs.declared.Range.{Range}
+use Rattle.range.specs.Store.{kept}
+use Rattle.term.specs.Term.{Term, const, var, shift, sum, diff, neg, read, fresh, write}
+use Rattle.term.specs.Bytes.{look}
+use Rattle.term.specs.declared.Relation.{Relation}
+use Rattle.term.specs.declared.Relation.the-variants.{Same, Apart, Unknown}
+use Rattle.term.specs.Relation.{related}
+use Rattle.term.specs.Walk.{Walk, step, walkAt, walk}
+use Rattle.rules.specs.declared.relation.Index.{Index}
+use Rattle.rules.specs.declared.walk.Step.{Step}
+use Rattle.rules.specs.declared.walk.Step.the-variants.{Hit, Next, Stop}
+use Rattle.rules.specs.declared.walk.Landing.{Landing}
+use Rattle.rules.specs.declared.walk.Landing.the-variants.{Found, Stopped}
+use Rattle.rules.specs.Walked.{stepBy, stepAt, landing}
+use Rattle.rules.specs.Ready.{NamesBelow, Standing, Sought, Walking}
+
+-- ---- over lookups
+
+landBy : ℕ → (ℕ → Landing) → Step → Landing
+landBy m onward (Hit c) = Found c
+landBy m onward (Next a) = onward a
+landBy m onward Stop = Stopped m
+
+land-known : (m a c : ℕ) (onward : ℕ → Walk) (k : Relation)
+    → landing (step m a c onward k) ≡ landBy m (λ n. landing (onward n)) (stepBy a c k)
+unfolding step landing landBy stepBy
+land-known m a c onward Same = refl
+land-known m a c onward Apart = refl
+land-known m a c onward Unknown = refl
+
+module _ (f : ℕ → Term) (g : ℕ → Range) (i : ℕ) where
+  land-at : (m : ℕ) (onward : ℕ → Walk) (t : Term)
+      → landing (walkAt f g i m onward t) ≡ landBy m (λ n. landing (onward n)) (stepAt f g i t)
+  unfolding walkAt landing landBy stepAt
+  land-at m onward (const k) = refl
+  land-at m onward (var name k h) = refl
+  land-at m onward (shift a k) = refl
+  land-at m onward (sum a b k) = refl
+  land-at m onward (diff a b k) = refl
+  land-at m onward (neg a k) = refl
+  land-at m onward (read a b) = refl
+  land-at m onward fresh = refl
+  land-at m onward (write a b c) = land-known m a c onward (related f g b i)
+
+  land-step : (left m : ℕ) → landing (walk f g i (suc left) m) ≡ landBy m (λ n. landing (walk f g i left n)) (stepAt f g i (f m))
+  unfolding walk
+  land-step left m = land-at m (walk f g i left) (f m)
+
+  land-spent : (m : ℕ) → landing (walk f g i 0 m) ≡ Stopped m
+  unfolding walk landing
+  land-spent m = refl
+
+-- ---- a step leads to rows below, and so a walk ends at one
+
+abbrev StepBelow : ℕ → Step → Type 0
+StepBelow m (Hit c) = c < m
+StepBelow m (Next a) = a < m
+StepBelow m Stop = Unit {0}
+
+step-known : (m a c : ℕ) (k : Relation) → a < m → c < m → StepBelow m (stepBy a c k)
+unfolding stepBy
+step-known m a c Same p q = q
+step-known m a c Apart p q = p
+step-known m a c Unknown p q = tt
+
+step-below : (f : ℕ → Term) (g : ℕ → Range) (i m : ℕ) (t : Term) → NamesBelow m t → StepBelow m (stepAt f g i t)
+unfolding stepAt
+step-below f g i m (const k) h = tt
+step-below f g i m (var name k u) h = tt
+step-below f g i m (shift a k) h = tt
+step-below f g i m (sum a b k) h = tt
+step-below f g i m (diff a b k) h = tt
+step-below f g i m (neg a k) h = tt
+step-below f g i m (read a b) h = tt
+step-below f g i m fresh h = tt
+step-below f g i m (write a b c) h = step-known m a c (related f g b i) (h .0) (h .2)
+
+abbrev pub LandsBelow : ℕ → Landing → Type 0
+LandsBelow r (Found c) = c < r
+LandsBelow r (Stopped n) = n < r
+
+land-below : (r m : ℕ) (onward : ℕ → Landing) → m < r → ((a : ℕ) → a < r → LandsBelow r (onward a))
+    → (s : Step) → StepBelow m s → LandsBelow r (landBy m onward s)
+unfolding landBy
+land-below r m onward l h (Hit c) b = omega arith
+land-below r m onward l h (Next a) b = h a (omega arith)
+land-below r m onward l h Stop b = l
+
+pub lands-below : (f : ℕ → Term) (g : ℕ → Range) (r i : ℕ) → ((x : ℕ) → x < r → NamesBelow x (f x))
+    → (left m : ℕ) → m < r → LandsBelow r (landing (walk f g i left m))
+lands-below f g r i names zero m l = rw (land-spent f g i m) l
+lands-below f g r i names (suc left) m l =
+    rw (land-step f g i left m)
+    (land-below r m (λ a. landing (walk f g i left a)) l (lands-below f g r i names left)
+    (stepAt f g i (f m)) (step-below f g i m (f m) (names m l)))
+
+-- ---- the loop
+
+-- at array row n, with `compared` stores behind
+pub record Onward (R S : List ℕ) (limit r i m n compared : ℕ) : Type 0 where
+  pub rest : landing (walk (look R) (kept S) i (limit - compared) n) ≡ landing (walk (look R) (kept S) i limit m)
+  pub below : n < r
+  pub few : compared ≤ limit
+
+module _ (R S : List ℕ) (limit r i : ℕ) (j : Index) (m : ℕ) (given : Walking R S r i j m) where
+  pub walk-begins : Onward R S limit r i m m 0
+  walk-begins = record { rest = ap (λ (k : ℕ). landing (walk (look R) (kept S) i k m)) (omega arith); below = given .below; few = omega arith }
+
+  module _ (n compared : ℕ) (inv : Onward R S limit r i m n compared) where
+    pub walk-at : Walking R S r i j n
+    walk-at = record { rows = given .rows; index = given .index; below = inv .below }
+
+    pub walk-spent : limit ≤ compared → Stopped n ≡ landing (walk (look R) (kept S) i limit m)
+    walk-spent h =
+        let none : limit - compared ≡ 0 = omega (arith, inv .few) in
+        sym (land-spent (look R) (kept S) i n) ∙ rw none at (inv .rest)
+
+    module _ (s : Step) (more : compared < limit) (told : s ≡ stepAt (look R) (kept S) i (look R n)) where
+      one-more : landBy n (λ a. landing (walk (look R) (kept S) i (limit - (compared + 1)) a)) s ≡ landing (walk (look R) (kept S) i limit m)
+      one-more =
+          let left : limit - compared ≡ suc (limit - (compared + 1)) = omega arith in
+          rw (← (rw left at (inv .rest)), told) (sym (land-step (look R) (kept S) i (limit - (compared + 1)) n))
+
+      pub walk-hits : (c : ℕ) → s ≡ Hit c → Found c ≡ landing (walk (look R) (kept S) i limit m)
+      unfolding landBy
+      walk-hits c e = rw e at one-more
+
+      pub walk-stops : s ≡ Stop → Stopped n ≡ landing (walk (look R) (kept S) i limit m)
+      unfolding landBy
+      walk-stops e = rw e at one-more
+
+      next-below : (a : ℕ) → s ≡ Next a → a < n
+      next-below a e =
+          rw (sym told ∙ e) at (step-below (look R) (kept S) i n (look R n) (given .rows .names n (inv .below)))
+
+      pub walk-goes-on : (a : ℕ) → s ≡ Next a → Onward R S limit r i m a (compared + 1)
+      unfolding landBy
+      walk-goes-on a e =
+          record {
+            rest = rw e at one-more;
+            below = omega (arith, next-below a e, inv .below);
+            few = omega arith;
+          }

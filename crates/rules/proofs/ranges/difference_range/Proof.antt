@@ -1,0 +1,27 @@
+use borrow.Author.Needs.{needs}
+use Rattle.rules.proofs.RowRanges.{point-known, kept-known, sum-known, negation-known}
+use Rattle.rules.proofs.ranges.difference_range.Statement.{statement}
+use Rattle.rules.proofs.ranges.difference_range.Tie as tie
+
+load-requires : tie.Need-load-requires
+load-requires c κs = search needs
+
+load-requires-2 : tie.Need-load-requires-2
+load-requires-2 c κs = search needs
+
+negation-requires : tie.Need-negation-requires
+negation-requires c κs = search (needs, point-known, kept-known, sum-known, negation-known)
+
+sum-requires : tie.Need-sum-requires
+sum-requires c κs = search (needs, point-known, kept-known, sum-known, negation-known)
+
+moved-requires : tie.Need-moved-requires
+moved-requires c κs = search (needs, point-known, kept-known, sum-known, negation-known)
+
+returns : tie.Need-returns
+returns c = cc
+
+pub difference-range-spec : {M : Type 1} → statement M
+difference-range-spec =
+    tie.close
+    (tie.spec load-requires load-requires-2 negation-requires sum-requires moved-requires returns)

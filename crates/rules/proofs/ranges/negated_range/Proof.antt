@@ -1,0 +1,23 @@
+use borrow.Author.Needs.{needs}
+use Rattle.rules.proofs.RowRanges.{point-known, kept-known, sum-known, negation-known}
+use Rattle.rules.proofs.ranges.negated_range.Statement.{statement}
+use Rattle.rules.proofs.ranges.negated_range.Tie as tie
+
+load-requires : tie.Need-load-requires
+load-requires c κs = search needs
+
+negation-requires : tie.Need-negation-requires
+negation-requires c κs = search (needs, point-known, kept-known, sum-known, negation-known)
+
+of-word-requires : tie.Need-of-word-requires
+of-word-requires c κs = search needs
+
+sum-requires : tie.Need-sum-requires
+sum-requires c κs = search (needs, point-known, kept-known, sum-known, negation-known)
+
+returns : tie.Need-returns
+returns c = cc
+
+pub negated-range-spec : {M : Type 1} → statement M
+negated-range-spec =
+    tie.close (tie.spec load-requires negation-requires of-word-requires sum-requires returns)

@@ -1,0 +1,16 @@
+use borrow.Author.Needs.{needs}
+use Rattle.rules.proofs.RowRanges.{point-known, kept-known, sum-known, negation-known}
+use Rattle.rules.proofs.ranges.shifted_range.Statement.{statement}
+use Rattle.rules.proofs.ranges.shifted_range.Tie as tie
+
+load-requires : tie.Need-load-requires
+load-requires c κs = search needs
+
+moved-requires : tie.Need-moved-requires
+moved-requires c κs = search (needs, point-known, kept-known, sum-known, negation-known)
+
+returns : tie.Need-returns
+returns c = cc
+
+pub shifted-range-spec : {M : Type 1} → statement M
+shifted-range-spec = tie.close (tie.spec load-requires moved-requires returns)

@@ -1,0 +1,41 @@
+use borrow.Author.Needs.{needs}
+use Rattle.rules.proofs.Turns.{settle-asks, settle-made, settle-kept}
+use Rattle.rules.proofs.turn.settle.Statement.{statement}
+use Rattle.rules.proofs.turn.settle.Tie as tie
+
+decode-requires : tie.Need-decode-requires
+decode-requires c κs = search needs
+
+rewrite-requires : tie.Need-rewrite-requires
+rewrite-requires c κs = search settle-asks
+
+put-requires : tie.Need-put-requires
+put-requires c κs = search needs
+
+same-length : tie.Need-same-length
+same-length c = search needs
+
+returns : tie.Need-returns
+returns c = search settle-made
+
+decode-requires-2 : tie.Need-decode-requires-2
+decode-requires-2 c κs = search needs
+
+same-length-2 : tie.Need-same-length-2
+same-length-2 c = search needs
+
+returns-2 : tie.Need-returns-2
+returns-2 c = search settle-kept
+
+pub settle-spec : {M : Type 1} → statement M
+settle-spec =
+    tie.close
+    (tie.spec
+    decode-requires
+    rewrite-requires
+    put-requires
+    same-length
+    returns
+    decode-requires-2
+    same-length-2
+    returns-2)

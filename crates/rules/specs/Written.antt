@@ -1,0 +1,53 @@
+-- One turn of a run. T are the bytes of the table, R those of the result, S is the store of ranges; R′ and S′ are what the turn leaves.
+use Prim.Native.Nat.{ℕ, suc, _+_, _^_, _≤_, _<_}
+use mathlib.Core.Path.{_≡_}
+use mathlib.Core.Bool.{Bool, cond}
+use mathlib.Core.List.{List}
+use lib.ListN.{length}
+use Rattle.range.specs.Store.{kept, keep}
+use Rattle.row.specs.declared.Row.{Row}
+use Rattle.row.specs.Names.{LENGTH, place}
+use Rattle.table.specs.Refusals.{MOST}
+use Rattle.term.specs.Term.{Term, termOf, rowOf}
+use Rattle.term.specs.Bytes.{look, putIf}
+use Rattle.term.specs.Relation.{rangeBy}
+use Rattle.term.specs.Rule.{rule}
+use Rattle.term.specs.WellFormed.{Fits}
+use Rattle.rules.specs.Ready.{NamesBelow, Standing, Ranged}
+
+-- what row r is worked out from: the table's row where it is touched, else the result's as it stands
+unfoldable pub source : List ℕ → List ℕ → ℕ → Bool → Term
+source T R r touched = cond touched (look T r) (look R r)
+
+pub record CanWrite (T R S : List ℕ) (w r : ℕ) (touched : Bool) : Type 0 where
+  pub width : w ≤ 64
+  pub few : r < MOST
+  pub table-room : place r + LENGTH ≤ length T
+  pub room : place r + LENGTH ≤ length R
+  pub rows : Standing R r
+  pub ranges : Ranged (2 ^ w) S r
+  pub fits : Fits (2 ^ w) (source T R r touched)
+  pub names : NamesBelow r (source T R r touched)
+
+-- the bytes of the result with row r settled
+unfoldable pub settled : List ℕ → List ℕ → List ℕ → ℕ → ℕ → ℕ → Bool → List ℕ
+settled T R S w limit r touched = putIf touched r (rowOf (rule (2 ^ w) limit (look R) (kept S) (look T r))) R
+
+-- the row that then stands there
+unfoldable pub becomes : List ℕ → List ℕ → List ℕ → ℕ → ℕ → ℕ → Bool → Term
+becomes T R S w limit r touched = cond touched (rule (2 ^ w) limit (look R) (kept S) (look T r)) (look R r)
+
+-- x is that row
+pub record Settled (T R R′ S : List ℕ) (w limit r : ℕ) (touched : Bool) (x : Row) : Type 0 where
+  pub result : R′ ≡ settled T R S w limit r touched
+  pub row : termOf x ≡ look R′ r
+  pub becomes : termOf x ≡ becomes T R S w limit r touched
+  pub fits : Fits (2 ^ w) (termOf x)
+  pub names : NamesBelow r (termOf x)
+
+pub record Written (T R R′ S S′ : List ℕ) (w limit r : ℕ) (touched : Bool) : Type 0 where
+  pub result : R′ ≡ settled T R S w limit r touched
+  pub row : look R′ r ≡ becomes T R S w limit r touched
+  pub store : S′ ≡ keep S r (rangeBy (2 ^ w) (kept S) (look R′ r))
+  pub rows : Standing R′ (suc r)
+  pub ranges : Ranged (2 ^ w) S′ (suc r)

@@ -1,0 +1,76 @@
+// One turn of a run: a row of the result, and its range.
+ghost use mathlib.Core.Path.{_≡_};
+ghost use Prim.Native.Nat.{_^_};
+ghost use Rattle.range.specs.Store.{kept};
+ghost use Rattle.term.specs.Term.{termOf, rowOf};
+ghost use Rattle.term.specs.Bytes.{look};
+ghost use Rattle.term.specs.Rule.{rule};
+ghost use Rattle.rules.specs.Ready.{Asked};
+ghost use Rattle.rules.specs.Written.{CanWrite, Settled, Written};
+use super::arrays::read_rule;
+use super::arrays::write_rule;
+use super::ranges::range_of;
+use super::words::diff_rule;
+use super::words::neg_rule;
+use super::words::shift_rule;
+use super::words::sum_rule;
+use row::Row;
+
+// The result row of x, which stands as row r in the table.
+pub fn rewrite(result: &[u8], store: &[u64; 2048], w: u32, limit: usize, r: usize, x: Row) -> Row
+    requires { ⌜ Asked (now result) w r (termOf x) ⌝ }
+    ensures { λ y. ⌜ y ≡ rowOf (rule (2 ^ w) limit (look (now (result .entry))) (kept (now (store .entry))) (termOf x)) ⌝ }
+{
+    let kind = x.kind;
+    match kind {
+        Row::CONST => Row::make(Row::CONST, 0, 0, 0, x.k, 0),
+        Row::VAR => Row::make(Row::VAR, x.a, 0, 0, x.k, x.h),
+        Row::SHIFT => shift_rule(result, w, r, x.a, x.k),
+        Row::SUM => sum_rule(result, w, r, x.a, x.b, x.k),
+        Row::DIFF => diff_rule(result, w, r, x.a, x.b, x.k),
+        Row::NEG => neg_rule(result, w, r, x.a, x.k),
+        Row::READ => read_rule(result, store, w, limit, r, x.a, x.b),
+        Row::FRESH => Row::make(Row::FRESH, 0, 0, 0, 0, 0),
+        Row::WRITE => write_rule(result, store, r, x.a, x.b, x.c),
+        0 | 10..=255 => Row::make(Row::CONST, 0, 0, 0, 0, 0),
+    }
+}
+
+// Settles result row r: the rewritten row r of the table where that is touched, else the row that stands there. Returns it.
+fn settle(
+    table: &[u8],
+    result: &mut [u8],
+    store: &[u64; 2048],
+    w: u32,
+    limit: usize,
+    r: usize,
+    touched: bool,
+) -> Row
+    requires { ⌜ CanWrite (now table) (now result) (now store) w r touched ⌝ }
+    ensures { λ x. ⌜ Settled (now (table .entry)) (now (result .entry)) (now (result .exit)) (now (store .entry)) w limit r touched x ⌝ }
+{
+    if touched {
+        let x = rewrite(result, store, w, limit, r, Row::decode(table, r));
+        Row::put(result, r, x);
+        return x;
+    }
+    Row::decode(result, r)
+}
+
+// Settles result row r, and keeps its range.
+pub fn write_row(
+    table: &[u8],
+    result: &mut [u8],
+    store: &mut [u64; 2048],
+    w: u32,
+    limit: usize,
+    r: usize,
+    touched: bool,
+)
+    requires { ⌜ CanWrite (now table) (now result) (now store) w r touched ⌝ }
+    ensures { λ _. ⌜ Written (now (table .entry)) (now (result .entry)) (now (result .exit)) (now (store .entry)) (now (store .exit)) w limit r touched ⌝ }
+{
+    let x = settle(table, result, store, w, limit, r, touched);
+    let a = range_of(store, w, r, x);
+    range::save(store, r, a);
+}

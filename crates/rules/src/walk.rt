@@ -1,0 +1,67 @@
+// The walk of a READ over the stores below it.
+ghost use mathlib.Core.Path.{_≡_};
+ghost use Rattle.range.specs.Store.{kept};
+ghost use Rattle.term.specs.Bytes.{look};
+ghost use Rattle.term.specs.Walk.{walk};
+ghost use Rattle.rules.specs.Walked.{stepAt, landing};
+ghost use Rattle.rules.specs.Ready.{Walking};
+use super::relation::Index;
+use super::relation::related;
+use row::Row;
+use term::Relation;
+
+// What a walk does at one array row: it has found the element, goes on to the next array, or stops.
+pub enum Step {
+    Hit(usize),
+    Next(usize),
+    Stop,
+}
+
+// How a walk ends: with the element's row, or at the array where it stopped.
+pub enum Landing {
+    Found(usize),
+    Stopped(usize),
+}
+
+// One step, at array row m.
+pub fn step_at(result: &[u8], store: &[u64; 2048], r: usize, i: usize, j: Index, m: usize) -> Step
+    requires { ⌜ Walking (now result) (now store) r i j m ⌝ }
+    ensures { λ s. ⌜ s ≡ stepAt (look (now (result .entry))) (kept (now (store .entry))) i (look (now (result .entry)) m) ⌝ }
+{
+    let x = Row::decode(result, m);
+    if x.kind != Row::WRITE {
+        return Step::Stop;
+    }
+    let b = x.b;
+    match related(result, store, b, i, j) {
+        Relation::Same => Step::Hit(x.c),
+        Relation::Apart => Step::Next(x.a),
+        Relation::Unknown => Step::Stop,
+    }
+}
+
+// The walk for index row i from array row m on. It compares at most `limit` stores.
+pub fn walk(
+    result: &[u8],
+    store: &[u64; 2048],
+    limit: usize,
+    r: usize,
+    i: usize,
+    j: Index,
+    m: usize,
+) -> Landing
+    requires { ⌜ Walking (now result) (now store) r i j m ⌝ }
+    ensures { λ l. ⌜ l ≡ landing (walk (look (now (result .entry))) (kept (now (store .entry))) i limit m) ⌝ }
+{
+    let mut n = m;
+    let mut compared = 0;
+    while compared < limit {
+        match step_at(result, store, r, i, j, n) {
+            Step::Hit(c) => return Landing::Found(c),
+            Step::Next(a) => n = a,
+            Step::Stop => return Landing::Stopped(n),
+        }
+        compared += 1;
+    }
+    Landing::Stopped(n)
+}

@@ -1,0 +1,3 @@
+-- Laws of what is printed.
+pub mod Printed
+pub mod Examples

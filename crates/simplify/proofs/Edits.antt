@@ -1,0 +1,157 @@
+-- An edit: rows moved as bytes, what its parts ask, and that what they leave is what the public promise says.
+use Prim.Native.Nat.{ℕ, _+_, _≤_, _<_}
+use native.Mathlib.Nat.{zero-add}
+use native.Mathlib.Omega.{arith}
+use mathlib.Core.Path.{_≡_, refl, ap, ap₂, sym, _∙_}
+use mathlib.Core.Bool.{Bool, true, false, cond}
+use mathlib.Core.List.{List, _++_, append-nil}
+use lib.ListN.{length, take, drop, length-drop, replicate, length-replicate}
+use lib.Seq.{sets, sets-eq, take-all, drop-length, length-sets, length-take-le}
+use lib.Dec.{eqb}
+use borrow.Author.Tests.{ne-eqb}
+use Rattle.basis.specs.Reason.{first}
+use Rattle.basis.proofs.Pick.{pick-true}
+use Rattle.row.specs.Names.{HEADER, LENGTH, place}
+use Rattle.row.proofs.Sets.{sets-undone}
+use Rattle.row.proofs.Places.{header-below, room-in}
+use Rattle.row.proofs.Rows.{take-stays}
+use Rattle.table.specs.declared.Verdict.{Verdict}
+use Rattle.table.specs.Refusals.{rows, refuse, accepted, given, headReasons, checkRows, checkTable}
+use Rattle.table.proofs.Heads.{good-head}
+use Rattle.term.specs.Result.{removedRows}
+use Rattle.term.specs.Bytes.{look}
+use Rattle.term.proofs.Acceptable.{same-rows}
+use Rattle.simplify.specs.declared.Answer.{Answer}
+use Rattle.simplify.specs.Answer.{isAccepted, answer, answered}
+use Rattle.simplify.specs.Judge.{EditThere}
+use Rattle.simplify.specs.Edit.{edited, keptPart, keptWrong, keptVerdict, editReasons, editVerdict, editedRows, editedBytes, touchedRows, editAnswer, editTable, editKept, Edited}
+use Rattle.simplify.specs.Patch.{CanTake, CanPut, CanPatch, Patched}
+use Rattle.simplify.proofs.Verdicts.{accepted-is, given-zero, given-refused, table-passes, head-same}
+use Rattle.simplify.proofs.Granted.{EditReady, edit-ready, EditGranted, edit-granted}
+use Rattle.simplify.proofs.FreshRun.{accepted-answer}
+
+row-long : (t : List ℕ) (r : ℕ) → place r + LENGTH ≤ length t → length (take LENGTH (drop (place r) t)) ≡ LENGTH
+row-long t r here = length-take-le LENGTH (drop (place r) t) (rw (length-drop (place r) t) (omega arith))
+
+-- a run of stores over the whole of a list is what is stored
+sets-whole : (l vs : List ℕ) → length vs ≡ length l → sets l 0 vs ≡ vs
+sets-whole l vs e =
+    sets-eq vs l 0 (rw zero-add (omega (arith, e))) ∙
+    ap (λ (rest : List ℕ). vs ++ rest) (ap (λ (n : ℕ). drop n l) (zero-add (length vs) ∙ e) ∙ drop-length l) ∙ append-nil vs
+
+pub row-taken : (t : List ℕ) (r at : ℕ) (old : List ℕ) {left : List ℕ} → CanTake t r old → at ≡ place r → left ≡ sets old 0 (take LENGTH (drop at t)) → left ≡ take LENGTH (drop (place r) t)
+row-taken t r at old can is e =
+    e ∙ ap (λ (k : ℕ). sets old 0 (take LENGTH (drop k t))) is ∙ sets-whole old (take LENGTH (drop (place r) t)) (row-long t r (can .here) ∙ sym (can .long))
+
+pub row-put : (t : List ℕ) (r at : ℕ) (bytes : List ℕ) {left : List ℕ} → CanPut t r bytes → at ≡ place r → left ≡ sets t at (take LENGTH (drop 0 bytes)) → left ≡ edited t r bytes
+unfolding edited
+row-put t r at bytes can is e = e ∙ ap₂ (λ (k : ℕ) (vs : List ℕ). sets t k vs) is (take-all LENGTH bytes (omega (arith, can .long)))
+
+-- ---- the edit
+
+module _ (t kept : List ℕ) (r : ℕ) (new : List ℕ) where
+  -- a refusal: both buffers are as they were
+  refused-by : {v : Verdict} {a : Answer} → editVerdict t kept r new ≡ v → (v .number ≡ 0 → ⊥) → a ≡ answer (v .number) (v .row) 0 0 → Edited t kept r new a t kept
+  unfolding editAnswer editTable editKept answered isAccepted
+  refused-by e h is =
+      let no : eqb (editVerdict t kept r new .number) 0 ≡ false = ne-eqb _ 0 (λ z. h (ap (λ (u : Verdict). u .number) (sym e) ∙ z)) in
+      record {
+        answer-is = is ∙ ap (λ (u : Verdict). answer (u .number) (u .row) 0 0) (sym e) ∙ sym (rw no);
+        table-is = sym (rw no);
+        kept-is = sym (rw no);
+      }
+
+  module _ {number : ℕ} (numbered : number ≡ first (editReasons t kept r new)) where
+    pub edit-refused : {a : Answer} → (number ≡ 0 → ⊥) → a ≡ answer number 0 0 0 → Edited t kept r new a t kept
+    unfolding editVerdict refuse
+    edit-refused h is =
+        refused-by (given-refused _ 0 (checkRows (edited t r new) (keptVerdict (edited t r new) (keptPart t kept))) (λ z. h (numbered ∙ z))) (λ z. h (numbered ∙ z))
+        (is ∙ ap (λ (n : ℕ). answer n 0 0 0) numbered)
+
+    module _ (z : number ≡ 0) where
+      ready : EditReady t kept r new
+      ready = edit-ready t kept r new (sym numbered ∙ z)
+
+      size : length t ≡ place (rows t)
+      size = good-head t (ready .roomy .head) .size
+
+      here : place r + LENGTH ≤ length t
+      here = room-in t (ready .row) size
+
+      pub take-asks : CanTake t r (replicate LENGTH 0)
+      take-asks = record { here = here; long = length-replicate {A = ℕ} LENGTH 0 }
+
+      pub put-asks : CanPut t r new
+      put-asks = record { here = here; long = ready .long }
+
+      module _ {t′ : List ℕ} (put : t′ ≡ edited t r new) where
+        long : length t′ ≡ length t
+        unfolding edited
+        long = ap length put ∙ length-sets t (place r) new
+
+        same-head : take HEADER t′ ≡ take HEADER t
+        unfolding edited
+        same-head = ap (take HEADER) put ∙ take-stays t r new (ready .long) HEADER (header-below r)
+
+        rows-same : rows t′ ≡ rows t
+        rows-same = same-rows t′ t same-head
+
+        head : first (headReasons t′) ≡ 0
+        head = head-same t′ t long same-head ∙ ready .roomy .head
+
+        pub judge-asks : EditThere t′ kept
+        judge-asks = record { head = head; room = rw long (ready .roomy .room) }
+
+        parts : keptPart t kept ≡ keptPart t′ kept
+        unfolding keptPart
+        parts = ap (λ (n : ℕ). take (place n) kept) (sym rows-same)
+
+        module _ {old : List ℕ} (taken : old ≡ take LENGTH (drop (place r) t)) where
+          pub back-asks : CanPut t′ r old
+          back-asks = record { here = rw long here; long = ap length taken ∙ row-long t r here }
+
+          back : edited t′ r old ≡ t
+          unfolding edited
+          back =
+              ap₂ (λ (l vs : List ℕ). sets l (place r) vs) put (taken ∙ ap (λ (n : ℕ). take n (drop (place r) t)) (sym (ready .long))) ∙
+              sets-undone t (place r) new (rw (ready .long) here)
+
+          module _ {v : Verdict} (judged : v ≡ checkRows t′ (keptVerdict t′ (keptPart t′ kept))) where
+            verdict-is : editVerdict t kept r new ≡ v
+            unfolding editVerdict
+            verdict-is =
+                given-zero _ 0 _ (sym numbered ∙ z) ∙
+                ap₂ (λ (l m : List ℕ). checkRows l (keptVerdict l m)) (sym put) parts ∙ sym judged
+
+            pub edited-refused : {t″ : List ℕ} {a : Answer} → (v .number ≡ 0 → ⊥) → t″ ≡ edited t′ r old → a ≡ answer (v .number) (v .row) 0 0 → Edited t kept r new a t″ kept
+            edited-refused h restored is = rw (restored ∙ back) (refused-by verdict-is h is)
+
+            module _ (fine : v .number ≡ 0) where
+              yes : isAccepted (editVerdict t kept r new) ≡ true
+              yes = accepted-is _ (ap (λ (u : Verdict). u .number) verdict-is ∙ fine)
+
+              granted : EditGranted t kept r new
+              granted = edit-granted t kept r new yes
+
+              passes : checkTable t′ ≡ accepted
+              passes = table-passes t′ (keptVerdict t′ (keptPart t′ kept)) head (ap (λ (u : Verdict). u .number) (sym judged) ∙ fine)
+
+              pub edit-patches : CanPatch t′ kept r
+              edit-patches =
+                  record {
+                    table = passes;
+                    room = rw long (ready .roomy .room);
+                    right = ap₂ (λ (l m : List ℕ). keptWrong l m) put (sym parts) ∙ granted .kept-right;
+                  }
+
+              pub edit-done : {a : Answer} {left : List ℕ} → Patched t′ kept r a left → Edited t kept r new a t′ left
+              unfolding editAnswer editTable editKept
+              edit-done done =
+                  record {
+                    answer-is =
+                        done .answer-is ∙
+                        ap₂ (λ (l : List ℕ) (n : ℕ). answer 0 0 (removedRows (look l) (editedRows l r kept) n) (touchedRows l r)) put rows-same ∙
+                        sym (rw (granted .verdict) (accepted-answer (removedRows (look (edited t r new)) (editedRows (edited t r new) r kept) (rows t)) (touchedRows (edited t r new) r)));
+                    table-is = put ∙ sym (pick-true (isAccepted (editVerdict t kept r new)) (edited t r new) t yes);
+                    kept-is = done .kept-is ∙ ap (λ (l : List ℕ). editedBytes l r kept) put ∙ sym (pick-true (isAccepted (editVerdict t kept r new)) (editedBytes (edited t r new) r kept) kept yes);
+                  }

@@ -1,0 +1,53 @@
+-- What the loop leaves is what the public definitions say: the fresh result where every row is marked, the edited rows where the touched rows are.
+use Prim.Native.Nat.{ℕ, _+_, _^_, _≤_, _<_}
+use mathlib.Core.Path.{_≡_, refl, ap, sym, _∙_}
+use mathlib.Core.Bool.{Bool, true, false, cond}
+use mathlib.Core.List.{List}
+use lib.Dec.{ltb}
+use borrow.Author.Tests.{lt-ltb}
+use Rattle.basis.proofs.Pick.{pick-true, pick-false, pick-alike}
+use Rattle.basis.proofs.Counts.{count-same}
+use Rattle.term.specs.Term.{Term, isRead}
+use Rattle.term.specs.Relation.{rangeOf}
+use Rattle.term.specs.Result.{simplified, renewed, result, removedRows}
+use Rattle.term.specs.WellFormed.{Names}
+use Rattle.term.specs.Bytes.{look, putRows}
+use Rattle.term.proofs.Names.{NamesBelow, names-widen}
+use Rattle.term.proofs.Local.{range-local}
+use Rattle.term.proofs.Renewed.{KeptBelow, renewed-eq, renewed-only-below, renewed-below}
+use Rattle.term.proofs.Placed.{put-rows-same}
+use Rattle.simplify.specs.Answer.{LIMIT}
+use Rattle.simplify.specs.Renew.{marked, standing, outcome, CanRenew, Renewed}
+use Rattle.simplify.proofs.Renewing.{out-eq, out-below}
+
+-- removed is counted alike over rows that agree
+pub removed-same : (t f f′ : ℕ → Term) (n : ℕ) → ((x : ℕ) → x < n → f x ≡ f′ x) → removedRows t f n ≡ removedRows t f′ n
+unfolding removedRows
+removed-same t f f′ n same = count-same _ _ n (λ x l. rw (same x l))
+
+module _ (T R S marks : List ℕ) (w n : ℕ) (can : CanRenew T R S marks w n) (touched : ℕ → Bool) (kept : ℕ → Term) (below : KeptBelow touched kept)
+    (marks-are : (x : ℕ) → x < n → marked marks x ≡ touched x) (kept-is : (x : ℕ) → x < n → touched x ≡ false → look R x ≡ kept x) where
+  -- the rows
+  pub outcome-is : (x : ℕ) → x < n → outcome T R (marked marks) w n x ≡ renewed (2 ^ w) LIMIT touched (look T) kept x
+  unfolding standing
+  outcome-is =
+      renewed-only-below (2 ^ w) LIMIT touched (look T) kept (can .names) below (outcome T R (marked marks) w n) n
+      (λ x l.
+      out-eq T R S marks w n can x ∙
+      ap (λ (b : Bool). cond b (simplified (2 ^ w) LIMIT (outcome T R (marked marks) w n) (look T x)) (standing R n x)) (marks-are x l) ∙
+      pick-alike (touched x) (λ (e : touched x ≡ true). refl) (λ (e : touched x ≡ false). rw (lt-ltb x n l) (kept-is x l e)))
+
+  -- their ranges
+  pub ranges-are : (x : ℕ) → x < n → rangeOf (2 ^ w) (outcome T R (marked marks) w n) x ≡ rangeOf (2 ^ w) (renewed (2 ^ w) LIMIT touched (look T) kept) x
+  ranges-are x l =
+      range-local (λ s y. y < n) (outcome T R (marked marks) w n) (renewed (2 ^ w) LIMIT touched (look T) kept)
+      (λ s y h. names-widen (outcome T R (marked marks) w n y) (λ s′ z (k : z < y). native.Mathlib.Nat.lt-trans k h) (out-below T R S marks w n can y))
+      (λ s y h. outcome-is y h) (2 ^ w) false x l
+
+  -- their bytes
+  pub bytes-are : putRows (marked marks) (outcome T R (marked marks) w n) n R ≡ putRows touched (renewed (2 ^ w) LIMIT touched (look T) kept) n R
+  bytes-are = put-rows-same (marked marks) touched (outcome T R (marked marks) w n) (renewed (2 ^ w) LIMIT touched (look T) kept) n R marks-are outcome-is
+
+  -- how many reads are removed
+  pub removed-is : removedRows (look T) (outcome T R (marked marks) w n) n ≡ removedRows (look T) (renewed (2 ^ w) LIMIT touched (look T) kept) n
+  removed-is = removed-same (look T) (outcome T R (marked marks) w n) (renewed (2 ^ w) LIMIT touched (look T) kept) n outcome-is

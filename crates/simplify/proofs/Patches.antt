@@ -1,0 +1,112 @@
+-- The rows that an edit works out anew: what the loop asks, and that what it leaves is what the public promise says.
+use Prim.Native.Nat.{ℕ, _+_, _^_, _≤_, _<_}
+use native.Mathlib.Nat.{le-refl}
+use native.Mathlib.Omega.{arith}
+use mathlib.Core.Path.{_≡_, refl, ap, ap₂, sym, subst, _∙_}
+use mathlib.Core.Bool.{Bool, true, false, not, _||_}
+use mathlib.Core.List.{List}
+use lib.ListN.{length, take, drop, replicate, length-replicate}
+use lib.Seq.{length-take-le}
+use lib.Dec.{eqb, lit<}
+use borrow.Author.Tests.{eqb-true, not-false}
+use Rattle.basis.proofs.Pick.{or-left, or-right}
+use Rattle.basis.proofs.Counts.{any-none}
+use Rattle.row.specs.Names.{HEADER, LENGTH, place}
+use Rattle.row.specs.Bytes.{byte, Read}
+use Rattle.row.proofs.Places.{header-below}
+use Rattle.table.specs.declared.Verdict.{Verdict}
+use Rattle.table.specs.Refusals.{width, rows, MOST, accepted, checkTable}
+use Rattle.table.specs.Accepted.{Accepted}
+use Rattle.table.proofs.Accepts.{accepted-gives}
+use Rattle.term.specs.Term.{Term}
+use Rattle.term.specs.Result.{touchedBy, removedRows}
+use Rattle.term.specs.WellFormed.{Fits, Names, WellFormed}
+use Rattle.term.specs.Bytes.{look}
+use Rattle.term.proofs.Names.{NamesBelow}
+use Rattle.term.proofs.WellFormed.{formed-below}
+use Rattle.term.proofs.Looked.{cut-look}
+use Rattle.term.proofs.Accepted.{accepted-formed}
+use Rattle.simplify.specs.declared.Answer.{Answer}
+use Rattle.simplify.specs.Answer.{modulus, LIMIT, isAccepted, answer}
+use Rattle.simplify.specs.Renew.{marked, CanRenew, Renewed}
+use Rattle.simplify.specs.Marks.{CanMark, Marked}
+use Rattle.simplify.specs.Edit.{keptPart, otherHeader, otherSorts, keptWrong, editedRows, editedBytes, touchedRows}
+use Rattle.simplify.specs.Patch.{CanPatch, Patched}
+use Rattle.simplify.proofs.Verdicts.{is-accepted, accepted-only}
+use Rattle.simplify.proofs.FreshRun.{answer-is}
+use Rattle.simplify.proofs.Outcome.{bytes-are, removed-is}
+
+module _ (t kept : List ℕ) (r : ℕ) (can : CanPatch t kept r) where
+  ok : Accepted t
+  ok = accepted-gives t (can .table)
+
+  pub patch-header : HEADER ≤ length t
+  patch-header = rw (ok .head .size) (header-below (rows t))
+
+  abbrev part : List ℕ
+  part = keptPart t kept
+
+  -- the part is accepted as a table, with the table's header
+  sound : not (isAccepted (checkTable part)) || otherHeader t part ≡ false
+  unfolding keptWrong
+  sound = or-left _ (otherSorts t part) (can .right)
+
+  part-ok : Accepted part
+  part-ok = accepted-gives part (accepted-only part (not-false _ (or-left _ (otherHeader t part) sound)))
+
+  same-width : width part ≡ width t
+  unfolding otherHeader width
+  same-width = eqb-true (byte part 2) (byte t 2) (not-false _ (any-none _ HEADER (or-right (not (isAccepted (checkTable part))) _ sound) 2 (lit< tt)))
+
+  part-formed : WellFormed (2 ^ width t) (look part)
+  part-formed = rw same-width at (accepted-formed part part-ok)
+
+  part-look : (x : ℕ) → x < rows t → look kept x ≡ look part x
+  unfolding keptPart
+  part-look x l = sym (cut-look kept (rows t) x l)
+
+  part-below : NamesBelow (look part)
+  part-below = formed-below (2 ^ width t) (look part) part-formed
+
+  module _ {n : ℕ} (rows-is : Read (rows t) 65536 n) where
+    pub patch-marks : CanMark t n (replicate 1024 0)
+    patch-marks = record { ok = ok; few = rows-is .is; long = length-replicate {A = ℕ} 1024 0 }
+
+    module _ {marks : List ℕ} {count w : ℕ} (done : Marked t r n marks count) (width-is : Read (width t) 256 w) where
+      marks-are : (x : ℕ) → x < rows t → marked marks x ≡ touchedBy (look t) r x
+      marks-are = rw (rows-is .is) at (done .marks-are)
+
+      asked : (store : List ℕ) → length store ≡ 2048 → CanRenew t kept store marks (width t) (rows t)
+      asked store long =
+          record {
+            width = ok .head .width-high;
+            few = ok .head .few;
+            store-long = long;
+            table-room = rw (ok .head .size) (le-refl (place (rows t)));
+            room = rw (← ok .head .size) (can .room);
+            fits = accepted-formed t ok .fits;
+            names = formed-below (2 ^ width t) (look t) (accepted-formed t ok);
+            kept-fits = λ x l e. subst (Fits (2 ^ width t)) (sym (part-look x l)) (part-formed .fits x);
+            kept-names = λ x l e. subst (Names (λ array y. y < x)) (sym (part-look x l)) (part-below x);
+          }
+
+      pub patch-asks : (store : List ℕ) → length store ≡ 2048 → CanRenew t kept store marks w n
+      patch-asks store long = rw (width-is .is, rows-is .is) (asked store long)
+
+      finish : {R S : List ℕ} {removed : ℕ} (store : List ℕ) → length store ≡ 2048 → Renewed t kept marks (width t) (rows t) R S removed →
+          (R ≡ editedBytes t r kept) × (removed ≡ removedRows (look t) (editedRows t r kept) (rows t))
+      unfolding editedBytes editedRows modulus
+      finish store long d = (
+        d .result ∙ bytes-are t kept store marks (width t) (rows t) (asked store long) (touchedBy (look t) r) (look part) (λ x e. part-below x) marks-are (λ x l e. part-look x l),
+        d .counted ∙ removed-is t kept store marks (width t) (rows t) (asked store long) (touchedBy (look t) r) (look part) (λ x e. part-below x) marks-are (λ x l e. part-look x l),
+      )
+
+      pub patch-done : {R S : List ℕ} {removed : ℕ} (store : List ℕ) → length store ≡ 2048 → Renewed t kept marks w n R S removed →
+          Patched t kept r (record { refusal = 0; row = 0; removed = removed; touched = count }) R
+      unfolding touchedRows
+      patch-done {removed = removed} store long d =
+          let both = finish store long (rw (width-is .is, rows-is .is) at d) in
+          record {
+            answer-is = answer-is 0 0 removed count ∙ ap₂ (λ (k m : ℕ). answer 0 0 k m) (both .1) (rw (rows-is .is) at (done .counted));
+            kept-is = both .0;
+          }

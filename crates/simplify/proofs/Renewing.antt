@@ -1,0 +1,203 @@
+-- The loop over rows: after r rounds the first r rows are the outcome's, and so are their ranges.
+use Prim.Native.Nat.{ℕ, suc, _+_, _*_, _^_, _≤_, _<_}
+use native.Mathlib.Nat.{le-refl, lt-trans}
+use native.Mathlib.Numerals.{add-one}
+use native.Mathlib.Omega.{arith}
+use native.Mathlib.Decide.{decLt}
+use mathlib.Core.Path.{_≡_, refl, ap, ap₂, sym, subst, _∙_}
+use mathlib.Core.Bool.{Bool, true, false, cond, not, _&&_}
+use mathlib.Core.Logic.{dite}
+use mathlib.Core.List.{List}
+use lib.ListN.{length}
+use lib.Dec.{ltb}
+use lib.Pow.{pow-pos}
+use borrow.Author.Tests.{lt-ltb, ltb-true}
+use Rattle.basis.specs.Count.{countWhere}
+use Rattle.basis.proofs.Pick.{pick-case, test-case, pick-alike}
+use Rattle.basis.proofs.Counts.{count-next, count-most}
+use Rattle.range.specs.declared.Range.{Range}
+use Rattle.range.specs.Store.{kept, keep}
+use Rattle.range.proofs.Kept.{keep-same, keep-other}
+use Rattle.row.specs.Names.{LENGTH, place}
+use Rattle.row.specs.Bytes.{putRow}
+use Rattle.row.proofs.Places.{room-below, place-suc}
+use Rattle.table.specs.Refusals.{MOST}
+use Rattle.term.specs.Term.{Term, const, isRead, termOf, rowOf}
+use Rattle.term.specs.Relation.{rangeBy, rangeOf}
+use Rattle.term.specs.Rule.{rule}
+use Rattle.term.specs.Result.{simplified, renewed, removedRows}
+use Rattle.term.specs.WellFormed.{Fits, Names}
+use Rattle.term.specs.Bytes.{look, putIf, putRows}
+use Rattle.term.proofs.Names.{NamesBelow, names-widen}
+use Rattle.term.proofs.Local.{rule-local, range-by-local}
+use Rattle.term.proofs.Ranges.{range-eq}
+use Rattle.term.proofs.Renewed.{KeptBelow, renewed-eq, renewed-below}
+use Rattle.term.proofs.Placed.{length-put-rows, put-if-other, put-rows-above, put-rows-next}
+use Rattle.rules.specs.Ready.{Standing, Ranged}
+use Rattle.rules.specs.Written.{source, settled, becomes, CanWrite, Written}
+use Rattle.simplify.specs.Answer.{LIMIT}
+use Rattle.simplify.specs.Renew.{marked, standing, outcome, CanRenew, Renewed}
+
+-- R and S are the result and the ranges after r rounds, which began with R₀
+pub record Renewing (T R₀ marks : List ℕ) (w n r : ℕ) (R S : List ℕ) (removed : ℕ) : Type 0 where
+  pub some : r ≤ n
+  pub result : R ≡ putRows (marked marks) (outcome T R₀ (marked marks) w n) r R₀
+  pub rows : (x : ℕ) → x < r → look R x ≡ outcome T R₀ (marked marks) w n x
+  pub ranges : (x : ℕ) → x < r → kept S x ≡ rangeOf (2 ^ w) (outcome T R₀ (marked marks) w n) x
+  pub stand : Standing R r
+  pub ranged : Ranged (2 ^ w) S r
+  pub counted : removed ≡ removedRows (look T) (outcome T R₀ (marked marks) w n) r
+
+-- rows above those put are looked up as they were
+pub look-above : (touched : ℕ → Bool) (f : ℕ → Term) (n : ℕ) (buffer : List ℕ) (x : ℕ) → n ≤ x → look (putRows touched f n buffer) x ≡ look buffer x
+unfolding look
+look-above touched f n buffer x h = ap termOf (put-rows-above touched f n buffer x h)
+
+module _ (T R₀ S₀ marks : List ℕ) (w n : ℕ) (can : CanRenew T R₀ S₀ marks w n) where
+  kept-below : KeptBelow (marked marks) (standing R₀ n)
+  unfolding standing
+  kept-below x e =
+      pick-case (Names (λ s y. y < x)) (ltb x n) (λ (l : ltb x n ≡ true). can .kept-names x (ltb-true x n l) e) (λ (l : ltb x n ≡ false). tt)
+
+  abbrev out : ℕ → Term
+  out = outcome T R₀ (marked marks) w n
+
+  pub out-below : NamesBelow out
+  unfolding outcome
+  out-below = renewed-below (2 ^ w) LIMIT (marked marks) (look T) (standing R₀ n) (can .names) kept-below
+
+  pub out-eq : (x : ℕ) → out x ≡ cond (marked marks x) (simplified (2 ^ w) LIMIT out (look T x)) (standing R₀ n x)
+  unfolding outcome
+  out-eq = renewed-eq (2 ^ w) LIMIT (marked marks) (look T) (standing R₀ n) (can .names) kept-below
+
+  -- an unmarked row is the one that stood there
+  out-kept : (x : ℕ) → x < n → marked marks x ≡ false → out x ≡ look R₀ x
+  unfolding standing
+  out-kept x l e = out-eq x ∙ rw (e, lt-ltb x n l)
+
+  out-made : (x : ℕ) → marked marks x ≡ true → out x ≡ simplified (2 ^ w) LIMIT out (look T x)
+  out-made x e = out-eq x ∙ rw e
+
+  module _ {r : ℕ} {R S : List ℕ} {removed : ℕ} (at : Renewing T R₀ marks w n r R S removed) (l : r < n) where
+    -- the row that stands at r is the one that stood there at the beginning
+    stood : look R r ≡ look R₀ r
+    stood = ap (λ (t : List ℕ). look t r) (at .result) ∙ look-above (marked marks) out r R₀ r (le-refl r)
+
+    -- the rule over the rows that stand is the rule over the outcome
+    ruled : rule (2 ^ w) LIMIT (look R) (kept S) (look T r) ≡ simplified (2 ^ w) LIMIT out (look T r)
+    unfolding simplified
+    ruled =
+        rule-local (λ s y. y < r) (look R) out
+        (λ s y h. names-widen (look R y) (λ s′ z (k : z < y). lt-trans k h) (at .stand .names y h))
+        (λ s y h. at .rows y h) (kept S) (rangeOf (2 ^ w) out) (λ y h. at .ranges y h) (2 ^ w) LIMIT (look T r) (can .names r)
+
+    same-length : length R ≡ length R₀
+    same-length = ap length (at .result) ∙ length-put-rows (marked marks) out r R₀
+
+    fits : Fits (2 ^ w) (source T R r (marked marks r))
+    unfolding source
+    fits =
+        pick-case (Fits (2 ^ w)) (marked marks r) (λ (e : marked marks r ≡ true). can .fits r)
+        (λ (e : marked marks r ≡ false). subst (Fits (2 ^ w)) (sym stood) (can .kept-fits r l e))
+
+    names : Names (λ array y. y < r) (source T R r (marked marks r))
+    unfolding source
+    names =
+        pick-case (Names (λ array y. y < r)) (marked marks r) (λ (e : marked marks r ≡ true). can .names r)
+        (λ (e : marked marks r ≡ false). subst (Names (λ array y. y < r)) (sym stood) (can .kept-names r l e))
+
+    pub can-write : CanWrite T R S w r (marked marks r)
+    can-write =
+        let few : n ≤ 1024 = can .few in
+        let up : place r + LENGTH ≤ place n = room-below l in
+        let table-room : place n ≤ length T = can .table-room in
+        let room : place n ≤ length R₀ = can .room in
+        record {
+          width = can .width;
+          few = omega arith;
+          table-room = omega arith;
+          room = rw same-length (omega arith);
+          rows = at .stand;
+          ranges = at .ranged;
+          fits = fits;
+          names = names;
+        }
+
+    module _ (R′ S′ : List ℕ) (turn : Written T R R′ S S′ w LIMIT r (marked marks r)) where
+      store-room : 2 * r + 1 < length S
+      store-room = omega (arith, can .few, at .ranged .whole)
+
+      -- the row that now stands at r
+      made : look R′ r ≡ out r
+      unfolding becomes
+      made =
+          turn .row ∙
+          test-case (marked marks r)
+          (λ (e : marked marks r ≡ true). rw e (ruled ∙ sym (out-made r e)))
+          (λ (e : marked marks r ≡ false). rw e (stood ∙ sym (out-kept r l e)))
+
+      put-one : R′ ≡ putIf (marked marks r) r (rowOf (out r)) R
+      unfolding settled putIf
+      put-one =
+          turn .result ∙
+          pick-alike (marked marks r)
+          (λ (e : marked marks r ≡ true). ap (λ (t : Term). putRow R r (rowOf t)) (ruled ∙ sym (out-made r e)))
+          (λ (e : marked marks r ≡ false). refl)
+
+      put : R′ ≡ putRows (marked marks) out (r + 1) R₀
+      put = put-one ∙ ap (putIf (marked marks r) r (rowOf (out r))) (at .result) ∙ sym (put-rows-next (marked marks) out r R₀)
+
+      rows′ : (x : ℕ) → x < suc r → look R′ x ≡ out x
+      unfolding look
+      rows′ x h =
+          dite (decLt x r)
+          (λ (k : x < r). ap (λ (t : List ℕ). look t x) put-one ∙ ap termOf (put-if-other R r (rowOf (out r)) (marked marks r) x (omega arith)) ∙ at .rows x k)
+          (λ (k : x < r → ⊥). let e : x ≡ r = omega arith in rw e made)
+
+      ranges′ : (x : ℕ) → x < suc r → kept S′ x ≡ rangeOf (2 ^ w) out x
+      ranges′ x h =
+          dite (decLt x r)
+          (λ (k : x < r). ap (λ (s : List ℕ). kept s x) (turn .store) ∙ keep-other S r _ x (omega arith) ∙ at .ranges x k)
+          (λ (k : x < r → ⊥).
+          let e : x ≡ r = omega arith in
+          rw e
+          (ap (λ (s : List ℕ). kept s r) (turn .store) ∙ keep-same S r _ store-room ∙ ap (rangeBy (2 ^ w) (kept S)) made ∙
+          range-by-local (2 ^ w) (kept S) (rangeOf (2 ^ w) out) (out r) (names-widen (out r) (λ s y (k′ : y < r). at .ranges y k′) (out-below r)) ∙
+          sym (range-eq (2 ^ w) out out-below r)))
+
+      pub turned : (removed′ : ℕ) → removed′ ≡ removed + cond (isRead (look T r) && not (isRead (look R′ r))) 1 0 → Renewing T R₀ marks w n (r + 1) R′ S′ removed′
+      unfolding removedRows
+      turned removed′ e =
+          let up : r + 1 ≡ suc r = add-one r in
+          record {
+            some = omega arith;
+            result = put;
+            rows = rw up rows′;
+            ranges = rw up ranges′;
+            stand = rw up (turn .rows);
+            ranged = rw up (turn .ranges);
+            counted = e ∙ ap₂ (λ (k : ℕ) (t : Term). k + cond (isRead (look T r) && not (isRead t)) 1 0) (at .counted) made ∙ sym (count-next _ r);
+          }
+
+pub begun : (T R S marks : List ℕ) (w n : ℕ) → CanRenew T R S marks w n → Renewing T R marks w n 0 R S 0
+unfolding putRows removedRows countWhere place
+begun T R S marks w n can =
+    let room : 6 + 26 * n ≤ length R = can .room in
+    record {
+      some = omega arith;
+      result = refl;
+      rows = λ x h. absurd (omega arith);
+      ranges = λ x h. absurd (omega arith);
+      stand = record { few = omega arith; room = omega arith; names = λ x h. absurd (omega arith) };
+      ranged = record { whole = can .store-long; proper = λ x h. absurd (omega arith) };
+      counted = refl;
+    }
+
+pub finished : {T R₀ marks : List ℕ} {w n r : ℕ} {R S : List ℕ} {removed : ℕ} → Renewing T R₀ marks w n r R S removed → n ≤ r → Renewed T R₀ marks w n R S removed
+finished {T} {R₀} {marks} {w} {n} {r} {R} {S} {removed} at h =
+    let e : r ≡ n = omega (arith, at .some) in
+    let done : Renewing T R₀ marks w n n R S removed = rw e at at in
+    record { result = done .result; rows = done .rows; ranges = done .ranges; counted = done .counted }
+
+pub same-size : {T R₀ marks : List ℕ} {w n r : ℕ} {R S : List ℕ} {removed : ℕ} → Renewing T R₀ marks w n r R S removed → length R ≡ length R₀
+same-size {T} {R₀} {marks} {w} {n} {r} at = ap length (at .result) ∙ length-put-rows (marked marks) (outcome T R₀ (marked marks) w n) r R₀

@@ -1,0 +1,93 @@
+-- The ways out of one turn of the loop.
+use Prim.Native.Nat.{ℕ, zero, suc, _+_, _^_, _≤_, _<_}
+use native.Mathlib.Omega.{arith}
+use mathlib.Core.Path.{_≡_, refl, ap, sym, _∙_}
+use mathlib.Core.Bool.{Bool, true, false, cond, not, _&&_}
+use mathlib.Core.List.{List}
+use lib.Dec.{eqb}
+use lib.ListN.{length}
+use borrow.Author.Tests.{ne-eqb}
+use mir.Syntax.{w64}
+use mir.Val.{Fits}
+use Rattle.basis.proofs.Counts.{count-most}
+use Rattle.row.specs.Names.{READ, LENGTH, place}
+use Rattle.row.specs.Bytes.{row, rowAt}
+use Rattle.term.specs.Term.{Term, termOf, isRead, rowOf}
+use Rattle.term.specs.Result.{removedRows}
+use Rattle.term.specs.Bytes.{look, putIf}
+use Rattle.term.proofs.Placed.{length-put-if}
+use Rattle.rules.specs.Written.{settled, CanWrite, Written}
+use Rattle.simplify.specs.Answer.{LIMIT}
+use Rattle.simplify.specs.Judge.{Both}
+use Rattle.simplify.specs.Renew.{marked, outcome, CanTurn, Turned, CanRenew, Renewed}
+use Rattle.simplify.proofs.Renewing.{Renewing, can-write, turned}
+
+-- a READ is told by its kind
+read-kind : (kind a b c k h : ℕ) → isRead (termOf (row kind a b c k h)) ≡ eqb kind READ
+unfolding termOf isRead
+read-kind zero a b c k h = refl
+read-kind (suc zero) a b c k h = refl
+read-kind (suc (suc zero)) a b c k h = refl
+read-kind (suc (suc (suc zero))) a b c k h = refl
+read-kind (suc (suc (suc (suc zero)))) a b c k h = refl
+read-kind (suc (suc (suc (suc (suc zero))))) a b c k h = refl
+read-kind (suc (suc (suc (suc (suc (suc zero)))))) a b c k h = refl
+read-kind (suc (suc (suc (suc (suc (suc (suc zero))))))) a b c k h = refl
+read-kind (suc (suc (suc (suc (suc (suc (suc (suc zero)))))))) a b c k h = refl
+read-kind (suc (suc (suc (suc (suc (suc (suc (suc (suc zero))))))))) a b c k h = refl
+read-kind (suc (suc (suc (suc (suc (suc (suc (suc (suc (suc kind)))))))))) a b c k h = sym (ne-eqb (suc (suc (suc (suc (suc (suc (suc (suc (suc (suc kind)))))))))) READ (omega arith))
+
+pub read-told : (t : List ℕ) (x : ℕ) {kind : ℕ} → kind ≡ rowAt t x .kind → eqb kind READ ≡ isRead (look t x)
+unfolding look
+read-told t x e = ap (λ (k : ℕ). eqb k READ) e ∙ sym (read-kind (rowAt t x .kind) (rowAt t x .a) (rowAt t x .b) (rowAt t x .c) (rowAt t x .k) (rowAt t x .h))
+
+module _ (t result : List ℕ) (x : ℕ) {b : Bool} (first : b ≡ isRead (look t x)) where
+  pub removed-told : {c : Bool} → b ≡ true → c ≡ isRead (look result x) → not c ≡ (isRead (look t x) && not (isRead (look result x)))
+  removed-told e second = sym (rw (sym first ∙ e, sym second))
+
+  pub removed-none : b ≡ false → false ≡ (isRead (look t x) && not (isRead (look result x)))
+  removed-none e = sym (rw (sym first ∙ e))
+
+-- ---- a turn
+
+module _ (T R S marks : List ℕ) (w r : ℕ) (can : CanTurn T R S marks w r) where
+  pub turn-mark : r < 1024
+  turn-mark = can .can .few
+
+  pub turn-asks : {b : Bool} → b ≡ marked marks r → CanWrite T R S w r b
+  turn-asks e = rw e (can .can)
+
+  module _ {b : Bool} (mark : b ≡ marked marks r) {R′ S′ : List ℕ} (done : Written T R R′ S S′ w LIMIT r b) where
+    pub turn-both : Both T R′ r
+    unfolding settled
+    turn-both =
+        record {
+          here = can .can .table-room;
+          there = rw (ap length (done .result) ∙ length-put-if R r _ b) (can .can .room);
+        }
+
+    pub turn-done : {c : Bool} {one : ℕ} → c ≡ (isRead (look T r) && not (isRead (look R′ r))) → one ≡ cond c 1 0 → Turned T R R′ S S′ marks w r one
+    turn-done e f = record { written = rw mark at done; counts = f ∙ ap (λ (d : Bool). cond d 1 0) e }
+
+at-most : (b : Bool) → cond b 1 0 ≤ 1
+at-most true = omega arith
+at-most false = omega arith
+
+-- ---- the loop
+
+module _ (T R₀ S₀ marks : List ℕ) (w n : ℕ) (can : CanRenew T R₀ S₀ marks w n) {r : ℕ} {R S : List ℕ} {removed : ℕ} (at : Renewing T R₀ marks w n r R S removed) (l : r < n) where
+  pub loop-asks : CanTurn T R S marks w r
+  loop-asks = record { can = can-write T R₀ S₀ marks w n can at l }
+
+  module _ {R′ S′ : List ℕ} {one : ℕ} (done : Turned T R R′ S S′ marks w r one) where
+    pub loop-fits : Fits w64 (removed + one)
+    unfolding removedRows
+    loop-fits =
+        let few : n ≤ 1024 = can .few in
+        let most : one ≤ 1 = rw (done .counts) (at-most (isRead (look T r) && not (isRead (look R′ r)))) in
+        let counted : removed ≤ r =
+        rw (at .counted) (count-most (λ x. isRead (look T x) && not (isRead (outcome T R₀ (marked marks) w n x))) r) in
+        record { fits = omega arith }
+
+    pub loop-next : Renewing T R₀ marks w n (r + 1) R′ S′ (removed + one)
+    loop-next = turned T R₀ S₀ marks w n can at l R′ S′ (done .written) (removed + one) (ap (λ (k : ℕ). removed + k) (done .counts))

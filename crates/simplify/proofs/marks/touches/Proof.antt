@@ -1,0 +1,19 @@
+use Rattle.simplify.proofs.Marking.{touches-itself, decoded-named, touches-named}
+use borrow.Author.Needs.{needs}
+use Rattle.simplify.proofs.marks.touches.Statement.{statement}
+use Rattle.simplify.proofs.marks.touches.Tie as tie
+
+returns : tie.Need-returns
+returns c = search touches-itself
+
+decode-requires : tie.Need-decode-requires
+decode-requires c κs = search needs
+
+names-marked-requires : tie.Need-names-marked-requires
+names-marked-requires c κs = search decoded-named
+
+returns-2 : tie.Need-returns-2
+returns-2 c = search touches-named
+
+pub touches-spec : {M : Type 1} → statement M
+touches-spec = tie.close (tie.spec returns decode-requires names-marked-requires returns-2)

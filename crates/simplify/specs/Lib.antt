@@ -1,0 +1,11 @@
+-- The public promises: what run, edit and compare answer, and what they leave in each lent buffer, for every input.
+pub mod Answer
+pub mod Renew
+pub mod Marks
+pub mod Copy
+pub mod Judge
+pub mod Run
+pub mod Fresh
+pub mod Edit
+pub mod Patch
+pub mod Compare

@@ -1,0 +1,48 @@
+-- Marking the rows that an edit touches. T are the bytes of the edited table, r is the row that was replaced, n the row count.
+use Prim.Native.Nat.{ℕ, _+_, _≤_, _<_}
+use mathlib.Core.Path.{_≡_}
+use mathlib.Core.Bool.{Bool, cond}
+use mathlib.Core.List.{List}
+use lib.ListN.{length, set}
+use Rattle.basis.specs.Count.{countWhere}
+use Rattle.row.specs.declared.Row.{Row}
+use Rattle.row.specs.Names.{LENGTH, place}
+use Rattle.row.specs.Bytes.{rowAt}
+use Rattle.table.specs.Uses.{UNUSED}
+use Rattle.table.specs.Refusals.{MOST, rows}
+use Rattle.table.specs.Accepted.{Accepted}
+use Rattle.term.specs.Term.{termOf}
+use Rattle.term.specs.WellFormed.{Names}
+use Rattle.term.specs.Result.{touchedBy}
+use Rattle.term.specs.Bytes.{look}
+use Rattle.simplify.specs.Renew.{marked}
+
+-- a reference field that is used names a row that has a mark
+pub record HasMark (used x : ℕ) : Type 0 where
+  pub below : (used ≡ UNUSED → ⊥) → x < MOST
+
+-- a row of some kind that names rows which have a mark
+pub record Named (x : Row) : Type 0 where
+  pub kind-low : 1 ≤ x .kind
+  pub kind-high : x .kind ≤ 9
+  pub names : Names (λ array y. y < MOST) (termOf x)
+
+-- row x of a table is there, and is such a row
+pub record Reached (T : List ℕ) (x : ℕ) : Type 0 where
+  pub room : place x + LENGTH ≤ length T
+  pub named : Named (rowAt T x)
+
+-- an accepted table of n rows, and marks for as many as there can be
+pub record CanMark (T : List ℕ) (n : ℕ) (marks : List ℕ) : Type 0 where
+  pub ok : Accepted T
+  pub few : n ≡ rows T
+  pub long : length marks ≡ MOST
+
+-- the marks with that of row x set, or taken away
+unfoldable pub remarked : List ℕ → ℕ → Bool → List ℕ
+remarked marks x mark = set marks x (cond mark 1 0)
+
+-- the touched rows among the first n are marked, and there are `count`
+pub record Marked (T : List ℕ) (r n : ℕ) (marks : List ℕ) (count : ℕ) : Type 0 where
+  pub marks-are : (x : ℕ) → x < n → marked marks x ≡ touchedBy (look T) r x
+  pub counted : count ≡ countWhere (touchedBy (look T) r) n

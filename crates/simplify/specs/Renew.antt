@@ -1,0 +1,55 @@
+-- The loop over rows that run and edit share: what it asks, and what it leaves. T are the bytes of the table, R those of the result, n the row count.
+use Prim.Native.Nat.{ℕ, _+_, _^_, _≤_, _<_}
+use mathlib.Core.Path.{_≡_}
+use mathlib.Core.Bool.{Bool, false, cond, not, _&&_}
+use mathlib.Core.List.{List}
+use lib.ListN.{length, getD}
+use lib.Dec.{ltb, eqb}
+use Rattle.range.specs.Store.{kept}
+use Rattle.row.specs.Names.{place}
+use Rattle.table.specs.Refusals.{MOST}
+use Rattle.term.specs.Term.{Term, const, isRead}
+use Rattle.term.specs.Relation.{rangeOf}
+use Rattle.term.specs.Result.{renewed, removedRows}
+use Rattle.term.specs.WellFormed.{Fits, Names}
+use Rattle.term.specs.Bytes.{look, putRows}
+use Rattle.rules.specs.Written.{CanWrite, Written}
+use Rattle.simplify.specs.Answer.{LIMIT}
+
+-- row x is marked
+unfoldable pub marked : List ℕ → ℕ → Bool
+marked marks x = eqb (getD marks x 0) 1
+
+-- the first n rows that stand in a buffer
+unfoldable pub standing : List ℕ → ℕ → ℕ → Term
+standing R n x = cond (ltb x n) (look R x) (const 0)
+
+-- the rows that the loop leaves
+unfoldable pub outcome : List ℕ → List ℕ → (ℕ → Bool) → ℕ → ℕ → ℕ → Term
+outcome T R touched w n = renewed (2 ^ w) LIMIT touched (look T) (standing R n)
+
+-- one turn: row r is touched where it is marked, and `one` counts it where it was a READ and is none any more
+pub record CanTurn (T R S marks : List ℕ) (w r : ℕ) : Type 0 where
+  pub can : CanWrite T R S w r (marked marks r)
+
+pub record Turned (T R R′ S S′ marks : List ℕ) (w r one : ℕ) : Type 0 where
+  pub written : Written T R R′ S S′ w LIMIT r (marked marks r)
+  pub counts : one ≡ cond (isRead (look T r) && not (isRead (look R′ r))) 1 0
+
+pub record CanRenew (T R S marks : List ℕ) (w n : ℕ) : Type 0 where
+  pub width : w ≤ 64
+  pub few : n ≤ MOST
+  pub store-long : length S ≡ 2048
+  pub table-room : place n ≤ length T
+  pub room : place n ≤ length R
+  pub fits : (x : ℕ) → Fits (2 ^ w) (look T x)
+  pub names : (x : ℕ) → Names (λ array y. y < x) (look T x)
+  pub kept-fits : (x : ℕ) → x < n → marked marks x ≡ false → Fits (2 ^ w) (look R x)
+  pub kept-names : (x : ℕ) → x < n → marked marks x ≡ false → Names (λ array y. y < x) (look R x)
+
+-- S′ is the store of ranges as the loop leaves it
+pub record Renewed (T R marks : List ℕ) (w n : ℕ) (R′ S′ : List ℕ) (removed : ℕ) : Type 0 where
+  pub result : R′ ≡ putRows (marked marks) (outcome T R (marked marks) w n) n R
+  pub rows : (x : ℕ) → x < n → look R′ x ≡ outcome T R (marked marks) w n x
+  pub ranges : (x : ℕ) → x < n → kept S′ x ≡ rangeOf (2 ^ w) (outcome T R (marked marks) w n) x
+  pub counted : removed ≡ removedRows (look T) (outcome T R (marked marks) w n) n

@@ -1,0 +1,43 @@
+-- A fresh run: document 01, "Fresh run".
+use Prim.Native.Nat.{ℕ}
+use mathlib.Core.Path.{_≡_}
+use mathlib.Core.Bool.{true, cond}
+use mathlib.Core.List.{List, [], _∷_, _++_}
+use lib.ListN.{length, take}
+use lib.Seq.{sets}
+use lib.Dec.{ltb}
+use Rattle.basis.specs.Reason.{Reason, _when_, first}
+use Rattle.row.specs.Names.{HEADER}
+use Rattle.table.specs.declared.Verdict.{Verdict}
+use Rattle.table.specs.Refusals.{rows, headReasons, given, checkRows, accepted}
+use Rattle.term.specs.Term.{Term}
+use Rattle.term.specs.Result.{result, removedRows}
+use Rattle.term.specs.Bytes.{look, putRows}
+use Rattle.simplify.specs.declared.Answer.{Answer}
+use Rattle.simplify.specs.Answer.{modulus, LIMIT, isAccepted, answered}
+
+-- 1 to 6
+unfoldable pub roomReasons : List ℕ → List ℕ → List Reason
+roomReasons t buffer = headReasons t ++ 6 when ltb (length buffer) (length t) ∷ []
+
+unfoldable pub runVerdict : List ℕ → List ℕ → Verdict
+runVerdict t buffer = given (first (roomReasons t buffer)) 0 (checkRows t accepted)
+
+-- the rows of a table's fresh result
+unfoldable pub freshRows : List ℕ → ℕ → Term
+freshRows t = result (modulus t) LIMIT (look t)
+
+-- the fresh result in the buffer: the header of the table, then its rows; later bytes stay
+unfoldable pub freshBytes : List ℕ → List ℕ → List ℕ
+freshBytes t buffer = putRows (λ x. true) (freshRows t) (rows t) (sets buffer 0 (take HEADER t))
+
+unfoldable pub runAnswer : List ℕ → List ℕ → Answer
+runAnswer t buffer = answered (runVerdict t buffer) (removedRows (look t) (freshRows t) (rows t)) (rows t)
+
+unfoldable pub runResult : List ℕ → List ℕ → List ℕ
+runResult t buffer = cond (isAccepted (runVerdict t buffer)) (freshBytes t buffer) buffer
+
+-- the promise: table and result slice as they came, the answer, and the result slice as it is left
+pub record Ran (t buffer : List ℕ) (answer : Answer) (left : List ℕ) : Type 0 where
+  pub answer-is : answer ≡ runAnswer t buffer
+  pub result-is : left ≡ runResult t buffer

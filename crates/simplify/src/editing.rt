@@ -1,0 +1,67 @@
+// An edit of one row.
+ghost use mathlib.Core.Path.{_≡_};
+ghost use lib.ListN.{take, drop};
+ghost use Rattle.row.specs.Names.{LENGTH, place};
+ghost use Rattle.simplify.specs.Edit.{edited, Edited};
+ghost use Rattle.simplify.specs.Patch.{CanTake, CanPut, CanPatch, Patched};
+use crate::Answer;
+use crate::copy::copy;
+use crate::fresh::refused;
+use crate::judge;
+use crate::marks;
+use crate::renew::renew;
+use row::Row;
+
+// The bytes of row r, kept aside.
+fn take_row(table: &[u8], r: usize, old: &mut [u8])
+    requires { ⌜ CanTake (now table) r (now old) ⌝ }
+    ensures { λ _. ⌜ now (old .exit) ≡ take LENGTH (drop (place r) (now (table .entry))) ⌝ }
+{
+    copy(table, Row::place(r), Row::LENGTH, old, 0);
+}
+
+// Puts the bytes of a row in place of row r.
+fn put_row(table: &mut [u8], r: usize, bytes: &[u8])
+    requires { ⌜ CanPut (now table) r (now bytes) ⌝ }
+    ensures { λ _. ⌜ now (table .exit) ≡ edited (now (table .entry)) r (now (bytes .entry)) ⌝ }
+{
+    copy(bytes, 0, Row::LENGTH, table, Row::place(r));
+}
+
+// Works out anew row r of the edited table and the rows that lead back to it.
+fn patch(table: &[u8], kept: &mut [u8], r: usize) -> Answer
+    requires { ⌜ CanPatch (now table) (now kept) r ⌝ }
+    ensures { λ answer. ⌜ Patched (now (table .entry)) (now (kept .entry)) r answer (now (kept .exit)) ⌝ }
+{
+    let n = table::rows_of(table);
+    let mut marks = [0u8; 1024];
+    let touched = marks::mark(table, n, r, &mut marks);
+    let mut store = [0u64; 2048];
+    let removed = renew(table, kept, &mut store, &marks, table::width_of(table), n);
+    Answer {
+        refusal: 0,
+        row: 0,
+        removed: removed,
+        touched: touched,
+    }
+}
+
+// Replaces row `row` of a table, and keeps its result right. The replacement is in place while it is judged; a refusal puts the old row back.
+pub fn edit(table: &mut [u8], kept: &mut [u8], row: u64, replacement: &[u8]) -> Answer
+    ensures { λ answer. ⌜ Edited (now (table .entry)) (now (kept .entry)) row (now (replacement .entry)) answer (now (table .exit)) (now (kept .exit)) ⌝ }
+{
+    let number = judge::edit(table, kept, row, replacement);
+    if number != 0 {
+        return refused(number, 0);
+    }
+    let r = row as usize;
+    let mut old = [0u8; 26];
+    take_row(table, r, &mut old);
+    put_row(table, r, replacement);
+    let verdict = judge::edited(table, kept);
+    if verdict.number != 0 {
+        put_row(table, r, &old);
+        return refused(verdict.number, verdict.row);
+    }
+    patch(table, kept, r)
+}

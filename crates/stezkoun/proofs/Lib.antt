@@ -1,0 +1,2 @@
+-- Laws of the door.
+pub mod Tells

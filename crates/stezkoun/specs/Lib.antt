@@ -1,0 +1,2 @@
+-- What the door for C says beside the promises of `simplify`.
+pub mod Door

@@ -1,0 +1,62 @@
+// The door for C and Rust: include/stezkoun.h declares these functions. A slice comes in as a pointer and a length.
+ghost use Rattle.simplify.specs.Run.{Ran};
+ghost use Rattle.simplify.specs.Edit.{Edited};
+ghost use Rattle.stezkoun.specs.Door.{Told};
+ghost use Rattle.term.specs.Relation.{relationNumber};
+ghost use mathlib.Core.Path.{_≡_};
+use simplify::Answer;
+use term::Relation;
+
+// A comparison's answer for C: 0 not known, 1 same, 2 apart.
+#[repr(C)]
+pub struct Numbers {
+    pub answer: Answer,
+    pub relation: u64,
+}
+
+fn relation_number(relation: Relation) -> u64
+    ensures { λ r. ⌜ r ≡ relationNumber relation ⌝ }
+{
+    match relation {
+        Relation::Unknown => 0,
+        Relation::Same => 1,
+        Relation::Apart => 2,
+    }
+}
+
+#[no_mangle]
+pub extern "C" fn stezkoun_run(table: &[u8], result: &mut [u8]) -> Answer
+    ensures { λ answer. ⌜ Ran (now (table .entry)) (now (result .entry)) answer (now (result .exit)) ⌝ }
+{
+    simplify::run(table, result)
+}
+
+#[no_mangle]
+pub extern "C" fn stezkoun_edit(
+    table: &mut [u8],
+    kept: &mut [u8],
+    row: u64,
+    replacement: &[u8],
+) -> Answer
+    ensures { λ answer. ⌜ Edited (now (table .entry)) (now (kept .entry)) row (now (replacement .entry)) answer (now (table .exit)) (now (kept .exit)) ⌝ }
+{
+    simplify::edit(table, kept, row, replacement)
+}
+
+#[no_mangle]
+pub extern "C" fn stezkoun_compare(
+    table: &[u8],
+    result: &mut [u8],
+    first: u64,
+    second: u64,
+) -> Numbers
+    ensures { λ numbers. ⌜ Told (now (table .entry)) (now (result .entry)) first second numbers (now (result .exit)) ⌝ }
+{
+    let told = simplify::compare(table, result, first, second);
+    let answer = told.answer;
+    let relation = told.relation;
+    Numbers {
+        answer: answer,
+        relation: relation_number(relation),
+    }
+}

@@ -1,0 +1,3 @@
+-- Laws of text.
+pub mod Decimal
+pub mod Puts

@@ -1,0 +1,52 @@
+use borrow.Author.Needs.{needs}
+use mathlib.Core.Path.{_≡_}
+use Prim.Native.Nat.{_≤_, _-_}
+use native.Mathlib.Omega.{arith}
+use lib.ListN.{length}
+use Rattle.tries.proofs.head_cases.Statement.{statement}
+use Rattle.tries.proofs.head_cases.Tie as tie
+
+abbrev Inv-loop : tie.InvT-loop
+Inv-loop t₀ cases i₀ t i = (i ≤ 27) × (length cases ≡ 27)
+
+abbrev μ-loop : tie.MeasureT-loop
+μ-loop t₀ cases i₀ t i = 27 - i
+
+loop-holds : tie.Need-loop-holds Inv-loop μ-loop
+loop-holds c = omega arith
+
+mul-c : tie.Need-mul-c Inv-loop μ-loop
+mul-c c = search needs
+
+array-copy-out-c : tie.Need-array-copy-out-c Inv-loop μ-loop
+array-copy-out-c c = search needs
+
+head-case-requires : tie.Need-head-case-requires Inv-loop μ-loop
+head-case-requires c κs = search needs
+
+add-i : tie.Need-add-i Inv-loop μ-loop
+add-i c = omega arith
+
+loop-less : tie.Need-loop-less Inv-loop μ-loop
+loop-less c = omega arith
+
+loop-again : tie.Need-loop-again Inv-loop μ-loop
+loop-again c = omega arith
+
+returns : tie.Need-returns Inv-loop μ-loop
+returns c = search needs
+
+pub head-cases-spec : {M : Type 1} → statement M
+head-cases-spec =
+    tie.close
+    (tie.spec
+    Inv-loop
+    μ-loop
+    loop-holds
+    mul-c
+    array-copy-out-c
+    head-case-requires
+    add-i
+    loop-less
+    loop-again
+    returns)

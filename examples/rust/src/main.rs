@@ -1,0 +1,52 @@
+//! Simplifies table P1, widens its variable and sees what becomes of the result.
+
+use stezkoun::Refusal;
+
+const VAR: u8 = 2;
+
+fn row(kind: u8, references: [u16; 3], values: [u64; 2]) -> [u8; 26] {
+    let mut bytes = [0; 26];
+    bytes[..3].copy_from_slice(&[0x52, 0x4f, kind]);
+    for (i, reference) in references.iter().enumerate() {
+        bytes[4 + 2 * i..][..2].copy_from_slice(&reference.to_le_bytes());
+    }
+    for (i, value) in values.iter().enumerate() {
+        bytes[10 + 8 * i..][..8].copy_from_slice(&value.to_le_bytes());
+    }
+    bytes
+}
+
+fn print_rows(table: &[u8]) {
+    for (number, row) in table[6..].chunks(26).enumerate() {
+        let short = |at: usize| u16::from_le_bytes(row[at..at + 2].try_into().unwrap());
+        let long = |at: usize| u64::from_le_bytes(row[at..at + 8].try_into().unwrap());
+        let (kind, k, h) = (row[2], long(10), long(18));
+        println!("{number} {kind} {} {} {} {k} {h}", short(4), short(6), short(8));
+    }
+}
+
+fn main() -> Result<(), Refusal> {
+    let mut table = include_bytes!("../../p1.table").to_vec();
+    let mut result = vec![0; table.len()];
+
+    let done = stezkoun::run(&table, &mut result)?;
+    println!("run: removed {} touched {}", done.removed, done.touched);
+    print_rows(&result);
+
+    let (_, relation) = stezkoun::compare(&table, &mut result, 2, 6)?;
+    println!("rows 2 and 6: {relation:?}");
+
+    // With the pointer anywhere from 0 the last read may no longer pass the store.
+    let wide = row(VAR, [0; 3], [0, 250]);
+    let done = stezkoun::edit(&mut table, &mut result, 0, &wide)?;
+    println!("edit: removed {} touched {}", done.removed, done.touched);
+    print_rows(&result);
+
+    // A word in the place of the memory: row 4 would write into it.
+    let word = row(1, [0; 3], [0; 2]);
+    match stezkoun::edit(&mut table, &mut result, 1, &word) {
+        Err(refusal) => println!("refused: {refusal:?}"),
+        Ok(_) => unreachable!("a WRITE on a word is refused"),
+    }
+    Ok(())
+}

@@ -1,0 +1,97 @@
+/*
+ * Stezkoun: checks a table of word and array terms, writes its simplified table, replaces one
+ * row of a table together with its kept result, and compares two rows.
+ *
+ * A table is 6 + 26 n bytes: a header (46 54, width 1..64, 0, row count n 0..1024 in two bytes)
+ * and n rows of 26 bytes (52 4F, kind, 0, references a b c in two bytes each, values k h in
+ * eight bytes each), all numbers little endian. A result is a table with the same header.
+ *
+ * Lending. Every buffer belongs to the caller; nothing is kept, allocated or freed, and nothing
+ * outside the given lengths is read or written. Within one call the lent buffers must not
+ * overlap. A pointer must not be null, not even with length 0. Any bytes may be lent: what is
+ * not a table is refused. Calls share no state, so calls with different buffers may run at once.
+ *
+ * Answers. On acceptance refusal and row are 0, removed counts the rows that are READ in the
+ * table and not READ in the result, and touched counts the rows that were worked out. On a
+ * refusal removed and touched are 0 and every lent byte is as it was.
+ */
+#ifndef STEZKOUN_H
+#define STEZKOUN_H
+
+#include <stddef.h>
+#include <stdint.h>
+
+#ifdef __cplusplus
+extern "C" {
+#endif
+
+/*
+ * Refusals, in the order in which they are looked for: 1 to 8; then the rows ascending, each
+ * 9 to 15, the first faulty row ending the search; then 16. Of 9 to 15 the answer's row is the
+ * faulty row; of all others it is 0.
+ */
+enum stezkoun_refusal {
+    STEZKOUN_ACCEPTED = 0,
+    STEZKOUN_TABLE_TOO_SHORT = 1,    /* table shorter than 6 bytes */
+    STEZKOUN_HEADER_MARK = 2,        /* header mark or zero byte wrong */
+    STEZKOUN_WIDTH = 3,              /* width is 0 or above 64 */
+    STEZKOUN_ROW_COUNT = 4,          /* n above 1024 */
+    STEZKOUN_TABLE_LENGTH = 5,       /* table length is not 6 + 26 n */
+    STEZKOUN_RESULT_TOO_SHORT = 6,   /* result or kept result shorter than the table */
+    STEZKOUN_ROW_NUMBER = 7,         /* a row number given by the caller is not below n */
+    STEZKOUN_REPLACEMENT_LENGTH = 8, /* replacement is not 26 bytes long */
+    STEZKOUN_ROW_MARK = 9,           /* row mark or zero byte wrong */
+    STEZKOUN_KIND = 10,              /* kind not 1 to 9 */
+    STEZKOUN_UNUSED_FIELD = 11,      /* a field that the kind does not use is not zero */
+    STEZKOUN_VALUE = 12,             /* a used k or h is 2^width or more */
+    STEZKOUN_REFERENCE = 13,         /* a used reference is not below its own row's number */
+    STEZKOUN_SORT = 14,              /* a word named where an array belongs, or the reverse; also
+                                        an array row named to stezkoun_compare */
+    STEZKOUN_BOUNDS = 15,            /* VAR with k above h */
+    STEZKOUN_KEPT_RESULT = 16        /* kept result refused as a table, or with another header, or
+                                        with an array where the edited table has a word, or the
+                                        reverse */
+};
+
+enum stezkoun_relation {
+    STEZKOUN_NOT_KNOWN = 0, /* also on a refusal */
+    STEZKOUN_SAME = 1,
+    STEZKOUN_APART = 2
+};
+
+struct stezkoun_answer { uint64_t refusal, row, removed, touched; };
+struct stezkoun_comparison { struct stezkoun_answer answer; uint64_t relation; };
+
+/*
+ * Simplifies the table into the first table_len bytes of result; later bytes stay. Touched is n.
+ * Gives refusals 1 to 6 and 9 to 15.
+ */
+struct stezkoun_answer stezkoun_run(const uint8_t *table, size_t table_len,
+                                    uint8_t *result, size_t result_len);
+
+/*
+ * Puts the replacement in the place of one row of the table, and works out anew, in the kept
+ * result, that row and the rows that lead back to it through references; all else stays. With
+ * the table's own kept result the outcome is that of a fresh run of the edited table. Refusals
+ * 9 to 15 are judged on the table with the replacement in place. Gives refusals 1 to 16.
+ */
+struct stezkoun_answer stezkoun_edit(uint8_t *table, size_t table_len,
+                                     uint8_t *kept, size_t kept_len,
+                                     uint64_t row,
+                                     const uint8_t *replacement, size_t replacement_len);
+
+/*
+ * Simplifies as stezkoun_run does, then says of two word rows whether they are the same in every
+ * case, apart in every case, or not known to be either. Gives refusals 1 to 7 and 9 to 15; 14
+ * also, after all faults of rows, for a number that names an array row, its row being that
+ * number and the first number coming first.
+ */
+struct stezkoun_comparison stezkoun_compare(const uint8_t *table, size_t table_len,
+                                            uint8_t *result, size_t result_len,
+                                            uint64_t first, uint64_t second);
+
+#ifdef __cplusplus
+}
+#endif
+
+#endif

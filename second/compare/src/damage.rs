@@ -1,0 +1,138 @@
+//! Faults of every kind, put into a table.
+
+use second::bytes::{place, HEADER, ROW};
+use second::Width;
+use tables::random::Random;
+
+/// The field places of a row: a, b, c, k, h and their sizes.
+const FIELDS: [(usize, usize); 5] = [(4, 2), (6, 2), (8, 2), (10, 8), (18, 8)];
+
+pub fn damaged(random: &mut Random, width: Width, table: &[u8]) -> Vec<u8> {
+    if random.one_in(40) {
+        let length = random.below(100);
+        return random.bytes(length);
+    }
+    let mut bytes = table.to_vec();
+    if bytes.len() > HEADER && random.one_in(40) {
+        let noise = random.bytes(bytes.len() - HEADER);
+        bytes[HEADER..].copy_from_slice(&noise);
+    }
+    // Two or three faults at once show the order in which they are looked for.
+    for _ in 0..random.pick(&[1, 1, 1, 2, 2, 3]) {
+        damage(random, width, &mut bytes);
+    }
+    bytes
+}
+
+fn damage(random: &mut Random, width: Width, bytes: &mut Vec<u8>) {
+    let rows = bytes.len().saturating_sub(HEADER) / ROW;
+    if bytes.len() < HEADER {
+        return;
+    }
+    match random.below(if rows == 0 { 3 } else { 12 }) {
+        0 => header(random, bytes),
+        1 => length(random, bytes),
+        2 => {
+            let at = random.below(bytes.len());
+            let flipped = bytes[at] ^ (1 << random.below(8));
+            bytes[at] = if random.one_in(2) { flipped } else { random.draw() as u8 };
+        }
+        3 => {
+            let (from, to) = (random.below(rows), random.below(rows));
+            let moved = bytes[place(from)].to_vec();
+            bytes[place(to)].copy_from_slice(&moved);
+        }
+        _ => {
+            let number = random.below(rows);
+            row(random, width, number, &mut bytes[place(number)]);
+        }
+    }
+}
+
+fn header(random: &mut Random, bytes: &mut [u8]) {
+    let rows = u16::from_le_bytes([bytes[4], bytes[5]]);
+    match random.below(4) {
+        0 => bytes[random.below(2)] ^= 1 << random.below(8),
+        1 => bytes[3] = random.pick(&[1, 0x80, 0xff]),
+        2 => bytes[2] = random.pick(&[0, 65, 255, 1, 64, 8]),
+        _ => {
+            let near = [rows.wrapping_add(1), rows.wrapping_sub(1)];
+            let wrong = random.pick(&[near[0], near[1], 0, 1024, 1025, 65535]);
+            bytes[4..6].copy_from_slice(&wrong.to_le_bytes());
+        }
+    }
+}
+
+fn length(random: &mut Random, bytes: &mut Vec<u8>) {
+    let length = bytes.len();
+    let wrong = match random.below(6) {
+        0 => random.below(HEADER),
+        1 => length - 1,
+        2 => length + 1,
+        3 => length + ROW,
+        4 => length.saturating_sub(ROW),
+        _ => random.below(length + 40),
+    };
+    bytes.resize(wrong, 0);
+}
+
+/// Damages one row, given its number and its 26 bytes.
+pub fn row(random: &mut Random, width: Width, number: usize, bytes: &mut [u8]) {
+    let mut put = |at: usize, size: usize, value: u64| {
+        bytes[at..at + size].copy_from_slice(&value.to_le_bytes()[..size]);
+    };
+    match random.below(8) {
+        0 => put(random.below(2), 1, random.draw()),
+        1 => put(3, 1, random.from_to(1, 255)),
+        2 => put(2, 1, random.pick(&[0, 10, 11, 255])),
+        3 => put(2, 1, random.from_to(1, 9)),
+        4 => {
+            let (at, size) = random.pick(&FIELDS);
+            let any = random.draw();
+            put(at, size, random.pick(&[0, 1, 2, any]));
+        }
+        5 => {
+            let above = if width.bits() == 64 { 0 } else { 1 << width.bits() };
+            let value = random.pick(&[above, width.largest(), u64::MAX, above << 1]);
+            put(random.pick(&[10, 18]), 8, value);
+        }
+        6 => {
+            let own = number as u64;
+            let wrong = random.pick(&[own, own + 1, own.wrapping_sub(1), 65535]);
+            put(random.pick(&[4, 6, 8]), 2, wrong);
+        }
+        _ => {
+            // Any earlier row: often one of the other sort.
+            for at in [4, 6, 8] {
+                if random.one_in(2) {
+                    put(at, 2, random.below(number + 1) as u64);
+                }
+            }
+            if bytes[2] == 2 && random.one_in(2) {
+                let (low, high) = (bytes[10..18].to_vec(), bytes[18..26].to_vec());
+                bytes[10..18].copy_from_slice(&high);
+                bytes[18..26].copy_from_slice(&low);
+            }
+        }
+    }
+}
+
+/// A result slice: mostly as long as the table or longer, at times too short.
+pub fn result_slice(random: &mut Random, table: &[u8]) -> Vec<u8> {
+    let length = match random.below(8) {
+        0 => table.len() + 1 + random.below(60),
+        1 if random.one_in(4) => table.len().saturating_sub(1 + random.below(30)),
+        2 if random.one_in(16) => random.below(table.len() + 1),
+        _ => table.len(),
+    };
+    random.bytes(length)
+}
+
+/// A row number: mostly of a row, at times out of range.
+pub fn row_number(random: &mut Random, table: &[u8]) -> u64 {
+    let rows = table.len().saturating_sub(HEADER) / ROW;
+    if rows > 0 && !random.one_in(20) {
+        return random.below(rows) as u64;
+    }
+    random.pick(&[rows as u64, rows as u64 + 1, 1024, 65_535, 1 << 32, u64::MAX])
+}

@@ -1,0 +1,225 @@
+//! One generated table and the calls made on it.
+
+use crate::damage::{damaged, result_slice, row_number};
+use crate::meaning::{decoded, World};
+use crate::pair::{hex, Pair};
+use crate::replacement::replacement;
+use second::bytes::{place, table_bytes};
+use second::{Ref, Relation, Row, Sort, Width};
+use tables::random::Random;
+use tables::wellformed::{rows_of_sorts, Earlier, Taste};
+use tables::{chain, machine, wellformed};
+
+/// Evaluation walks arrays step by step, so it is left to small tables.
+const MOST_ROWS_EVALUATED: usize = 64;
+
+pub fn cases(pair: &mut Pair, number: u64) {
+    pair.group = format!("group {number}");
+    let random = &mut Random::stream(pair.seed, number);
+    let width = random.width();
+    let rows = some_rows(random, width, number);
+    let table = table_bytes(width, &rows);
+
+    let mut slice = result_slice(random, &table);
+    pair.run(&table, &mut slice);
+    let mut result = vec![0; table.len()];
+    second::run(&table, &mut result);
+
+    if rows.len() <= MOST_ROWS_EVALUATED {
+        keeps_meaning(pair, random, &table, &result);
+    }
+    comparisons(pair, random, &table);
+    own_edits(pair, random, table.clone(), result.clone());
+    for _ in 0..2 {
+        foreign_edit(pair, random, &table, &result);
+    }
+    for _ in 0..2 {
+        damaged_calls(pair, random, width, &table, &result);
+    }
+}
+
+/// Most tables are small; every size up to 1,024 has its turn.
+fn size(random: &mut Random, number: u64) -> usize {
+    match number {
+        _ if number % 400 == 0 => 1024,
+        _ if number % 200 == 1 => random.from_to(900, 1024) as usize,
+        _ if number % 40 == 2 => random.from_to(100, 900) as usize,
+        _ if number % 5 == 3 => random.from_to(24, 100) as usize,
+        _ => random.from_to(0, 24) as usize,
+    }
+}
+
+/// The rows of table `number`.
+pub fn some_rows(random: &mut Random, width: Width, number: u64) -> Vec<Row> {
+    let count = size(random, number);
+    match random.below(10) {
+        0 => chain::rows(width, count),
+        1..=4 => {
+            let habits = machine::Habits {
+                heap: random.one_in(2),
+                pointers_one_in: random.pick(&[0, 4, 12, 40]),
+                careless: random.one_in(3),
+            };
+            machine::rows(random, width, count, habits)
+        }
+        _ => wellformed::rows(random, width, count),
+    }
+}
+
+fn keeps_meaning(pair: &mut Pair, random: &mut Random, table: &[u8], result: &[u8]) {
+    let ((width, rows), (_, result_rows)) = (decoded(table), decoded(result));
+    for _ in 0..3 {
+        let world = World::new(random, width, &rows);
+        let wrong = world.first_wrong(random, &rows, &result_rows);
+        pair.expect(wrong.is_none(), || {
+            format!(
+                "row {} of the result means something else: table {}",
+                wrong.unwrap(),
+                hex(table)
+            )
+        });
+    }
+}
+
+fn comparisons(pair: &mut Pair, random: &mut Random, table: &[u8]) {
+    let (width, rows) = decoded(table);
+    let words: Vec<Ref> = (0..rows.len()).filter(|row| rows[*row].sort() == Sort::Word).collect();
+    for _ in 0..4 {
+        let mut number = || match random.below(8) {
+            0..=6 if !words.is_empty() => random.pick(&words) as u64,
+            _ => row_number(random, table),
+        };
+        let first = number();
+        let second = number();
+        let second = if random.one_in(12) { first } else { second };
+        let mut slice = result_slice(random, table);
+        let comparison = pair.compare(table, &mut slice, first, second);
+        if comparison.answer.refusal != 0 || rows.len() > MOST_ROWS_EVALUATED {
+            continue;
+        }
+        for _ in 0..2 {
+            let means = World::new(random, width, &rows).words(&rows);
+            let equal = means[first as usize] == means[second as usize];
+            let right = match comparison.relation {
+                Relation::NotKnown => true,
+                Relation::Same => equal,
+                Relation::Apart => !equal,
+            };
+            pair.expect(right, || {
+                let relation = comparison.relation;
+                format!("rows {first} and {second} are not {relation:?}: table {}", hex(table))
+            });
+        }
+    }
+}
+
+/// A chain of edits with the table's own kept result.
+fn own_edits(pair: &mut Pair, random: &mut Random, mut table: Vec<u8>, mut kept: Vec<u8>) {
+    let behind = if random.one_in(4) { 1 + random.below(60) } else { 0 };
+    kept.extend(random.bytes(behind));
+    for _ in 0..random.pick(&[2, 4, 8]) {
+        let (width, rows) = decoded(&table);
+        let number = row_number(random, &table);
+        let replacement = replacement(random, width, &rows, &kept, number);
+        let before = kept.clone();
+        let answer = pair.edit(&mut table, &mut kept, number, &replacement);
+        if answer.refusal == 0 {
+            as_a_fresh_run(pair, &table, &before, &kept, number as usize);
+        }
+    }
+}
+
+fn as_a_fresh_run(pair: &mut Pair, table: &[u8], before: &[u8], kept: &[u8], edited: Ref) {
+    let mut fresh = before.to_vec();
+    second::run(table, &mut fresh);
+    pair.expect(fresh == kept, || {
+        format!("edit of row {edited} is not a fresh run: edited table {}", hex(table))
+    });
+    let (_, rows) = decoded(table);
+    for row in (0..rows.len()).filter(|row| !leads_back(&rows, *row, edited)) {
+        pair.expect(kept[place(row)] == before[place(row)], || {
+            format!("edit of row {edited} changed row {row}: edited table {}", hex(table))
+        });
+    }
+}
+
+/// Searched from each row on its own, unlike the way either program goes about it.
+fn leads_back(rows: &[Row], from: Ref, to: Ref) -> bool {
+    let mut seen = vec![false; rows.len()];
+    let mut left = vec![from];
+    while let Some(row) = left.pop() {
+        if row == to {
+            return true;
+        }
+        // Rows below the target lead still lower.
+        if row > to && !std::mem::replace(&mut seen[row], true) {
+            left.extend(rows[row].references());
+        }
+    }
+    false
+}
+
+/// An edit with a kept result that is not the table's own.
+fn foreign_edit(pair: &mut Pair, random: &mut Random, table: &[u8], result: &[u8]) {
+    let (width, rows) = decoded(table);
+    let sorts: Vec<Sort> = rows.iter().map(|row| row.sort()).collect();
+    let others = rows_of_sorts(random, width, &sorts);
+    let mut kept = match random.below(13) {
+        0..=3 => table_bytes(width, &others),
+        4 | 5 => table.to_vec(),
+        6 => {
+            let other = table_bytes(width, &others);
+            let mut kept = vec![0; other.len()];
+            second::run(&other, &mut kept);
+            kept
+        }
+        7..=9 => with_other_rows(random, width, result),
+        10 => table_bytes(width, &wellformed::rows(random, width, rows.len())),
+        11 => table_bytes(random.width(), &vec![Row::Fresh; rows.len()]),
+        _ => damaged(random, width, result),
+    };
+    if random.one_in(8) {
+        kept.extend(random.bytes(30));
+    }
+    let mut table = table.to_vec();
+    // Several in turn: the outcome of the first stands when the second is judged.
+    for _ in 0..2 {
+        let number = row_number(random, &table);
+        let (_, rows) = decoded(&table);
+        let replacement = replacement(random, width, &rows, &kept, number);
+        pair.edit(&mut table, &mut kept, number, &replacement);
+    }
+}
+
+/// The result with some rows exchanged for others of their sort.
+fn with_other_rows(random: &mut Random, width: Width, result: &[u8]) -> Vec<u8> {
+    let (_, mut rows) = decoded(result);
+    let taste = Taste::new(random, width);
+    for _ in 0..rows.len().min(4) {
+        let row = random.below(rows.len());
+        rows[row] = taste.row(random, rows[row].sort(), &Earlier::of(&rows[..row]));
+    }
+    table_bytes(width, &rows)
+}
+
+/// Each call on a damaged table, at times with other faults beside it.
+fn damaged_calls(pair: &mut Pair, random: &mut Random, width: Width, table: &[u8], result: &[u8]) {
+    let wrong = damaged(random, width, table);
+    let mut slice = result_slice(random, &wrong);
+    pair.run(&wrong, &mut slice);
+
+    let (first, second) = (row_number(random, &wrong), row_number(random, &wrong));
+    let mut slice = result_slice(random, &wrong);
+    pair.compare(&wrong, &mut slice, first, second);
+
+    let mut wrong = wrong;
+    let mut kept = match random.below(4) {
+        0 => result_slice(random, &wrong),
+        1 => damaged(random, width, result),
+        _ => result.to_vec(),
+    };
+    let (_, rows) = decoded(table);
+    let number = row_number(random, table);
+    let replacement = replacement(random, width, &rows, &kept, number);
+    pair.edit(&mut wrong, &mut kept, number, &replacement);
+}

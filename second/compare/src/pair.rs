@@ -1,0 +1,132 @@
+//! The library and the second program side by side: each call is made on both, and every
+//! number and every byte must agree.
+
+use crate::lent::Lent;
+use crate::tally::{Call, Seen, Tally};
+use second::{Answer, Comparison, Relation};
+use stezkoun::numbers;
+use tables::random::Random;
+
+pub struct Pair {
+    pub tally: Tally,
+    pub cases: u64,
+    pub differences: u64,
+    pub seed: u64,
+    /// Which group of cases is under way, for the description of a difference.
+    pub group: String,
+    alignment: Random,
+}
+
+/// Refusal, row, removed, touched and relation.
+type Numbers = [u64; 5];
+
+pub fn hex(bytes: &[u8]) -> String {
+    bytes.iter().map(|byte| format!("{byte:02x}")).collect()
+}
+
+fn library_numbers(answer: numbers::Answer, relation: u64) -> Numbers {
+    [answer.refusal, answer.row, answer.removed, answer.touched, relation]
+}
+
+fn second_numbers(answer: Answer, relation: Relation) -> Numbers {
+    [answer.refusal, answer.row, answer.removed, answer.touched, relation as u64]
+}
+
+impl Pair {
+    pub fn new(seed: u64) -> Pair {
+        let (tally, group, alignment) = (Tally::default(), String::new(), Random::new(seed));
+        Pair { tally, cases: 0, differences: 0, seed, group, alignment }
+    }
+
+    /// Counts a difference where `holds` is false, and describes the first.
+    pub fn expect(&mut self, holds: bool, describe: impl FnOnce() -> String) {
+        self.differences += !holds as u64;
+        if !holds && self.differences == 1 {
+            println!("DIFFERENCE at seed {}, {}, case {}", self.seed, self.group, self.cases);
+            println!("{}", describe());
+        }
+    }
+
+    pub fn run(&mut self, table: &[u8], result: &mut [u8]) -> Answer {
+        let [mut lent, mut room] = [table, &*result].map(|bytes| self.lent(bytes));
+        let given = library_numbers(numbers::run(lent.content(), room.content()), 0);
+        let mut seen = Seen::default();
+        let answer = second::run_watched(table, result, &mut seen);
+        self.tally.add(Call::Run, answer, &seen);
+        let expected = second_numbers(answer, Relation::NotKnown);
+        let buffers = [("table", lent, table), ("result", room, result)];
+        self.agree("run", given, expected, buffers);
+        answer
+    }
+
+    pub fn edit(
+        &mut self, table: &mut [u8], kept: &mut [u8], row: u64, replacement: &[u8],
+    ) -> Answer {
+        let [mut lent, mut room, mut new] =
+            [&*table, kept, replacement].map(|bytes| self.lent(bytes));
+        let given = numbers::edit(lent.content(), room.content(), row, new.content());
+        let mut seen = Seen::default();
+        let answer = second::edit_watched(table, kept, row, replacement, &mut seen);
+        self.tally.add(Call::Edit, answer, &seen);
+        let (given, expected) =
+            (library_numbers(given, 0), second_numbers(answer, Relation::NotKnown));
+        let buffers =
+            [("table", lent, &*table), ("kept", room, kept), ("replacement", new, replacement)];
+        self.agree(&format!("edit row {row}"), given, expected, buffers);
+        answer
+    }
+
+    pub fn compare(
+        &mut self, table: &[u8], result: &mut [u8], first: u64, second: u64,
+    ) -> Comparison {
+        let [mut lent, mut room] = [table, &*result].map(|bytes| self.lent(bytes));
+        let given = numbers::compare(lent.content(), room.content(), first, second);
+        let mut seen = Seen::default();
+        let comparison = second::compare_watched(table, result, first, second, &mut seen);
+        self.tally.add(Call::Compare, comparison.answer, &seen);
+        self.tally.add_relation(comparison);
+        let given = library_numbers(given.answer, given.relation);
+        let expected = second_numbers(comparison.answer, comparison.relation);
+        let buffers = [("table", lent, table), ("result", room, result)];
+        self.agree(&format!("compare rows {first} and {second}"), given, expected, buffers);
+        comparison
+    }
+
+    fn lent(&mut self, content: &[u8]) -> Lent {
+        Lent::new(&mut self.alignment, content)
+    }
+
+    /// Holds the library's numbers and lent buffers to the second program's, and counts the case.
+    fn agree<const N: usize>(
+        &mut self, call: &str, given: Numbers, expected: Numbers,
+        mut buffers: [(&str, Lent, &[u8]); N],
+    ) {
+        self.cases += 1;
+        let mut wrong = None;
+        if given != expected {
+            wrong = Some("refusal, row, removed, touched, relation".to_string());
+        }
+        for (name, lent, after) in &mut buffers {
+            if !lent.guards_stand() {
+                wrong = Some(format!("the bytes around the {name}"));
+            }
+            if lent.content() != *after {
+                let at = lent.content().iter().zip(*after).position(|(x, y)| x != y).unwrap();
+                let (ours, theirs) = (hex(&lent.content()[at..]), hex(&after[at..]));
+                wrong = Some(format!("{name} from byte {at}: library {ours}, second {theirs}"));
+            }
+            if expected[0] != 0 && lent.before != *after {
+                wrong = Some(format!("the second program changed the {name} though it refused"));
+            }
+        }
+        let Some(wrong) = wrong else { return };
+        self.expect(false, || {
+            let lent: Vec<String> = buffers
+                .iter()
+                .map(|(name, lent, _)| format!("{name} {}", hex(&lent.before)))
+                .collect();
+            let lent = lent.join("\n");
+            format!("{call}: {wrong}\nlibrary {given:?}, second {expected:?}; lent were\n{lent}")
+        });
+    }
+}

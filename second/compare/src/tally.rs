@@ -1,0 +1,98 @@
+//! What the cases reached.
+
+use second::{Answer, Comparison, Event, Relation, Watch};
+
+#[derive(Clone, Copy, PartialEq, Eq)]
+pub enum Call {
+    Run,
+    Edit,
+    Compare,
+}
+
+impl Call {
+    pub const ALL: [Call; 3] = [Call::Run, Call::Edit, Call::Compare];
+
+    pub fn name(self) -> &'static str {
+        ["run", "edit", "compare"][self as usize]
+    }
+
+    /// The refusals that document 01 lets this call give, and acceptance.
+    fn may_give(self, refusal: usize) -> bool {
+        match self {
+            Call::Run => ![7, 8, 16].contains(&refusal),
+            Call::Edit => true,
+            Call::Compare => ![8, 16].contains(&refusal),
+        }
+    }
+}
+
+/// The events of one case.
+pub struct Seen(Vec<bool>);
+
+impl Default for Seen {
+    fn default() -> Seen {
+        Seen(vec![false; Event::ALL.len()])
+    }
+}
+
+impl Watch for Seen {
+    fn saw(&mut self, event: Event) {
+        self.0[event as usize] = true;
+    }
+}
+
+#[derive(Default)]
+pub struct Tally {
+    calls: [u64; 3],
+    refusals: [[u64; 17]; 3],
+    relations: [u64; 3],
+    events: Vec<u64>,
+}
+
+impl Tally {
+    pub fn add(&mut self, call: Call, answer: Answer, seen: &Seen) {
+        self.calls[call as usize] += 1;
+        self.refusals[call as usize][answer.refusal as usize] += 1;
+        self.events.resize(Event::ALL.len(), 0);
+        for (count, seen) in self.events.iter_mut().zip(&seen.0) {
+            *count += *seen as u64;
+        }
+    }
+
+    pub fn add_relation(&mut self, comparison: Comparison) {
+        if comparison.answer.refusal == 0 {
+            self.relations[comparison.relation as usize] += 1;
+        }
+    }
+
+    /// Prints the shares and returns how many things were never reached.
+    pub fn print(&self) -> u64 {
+        let mut never = 0;
+        let mut line = |name: &str, count: u64, of: u64| {
+            never += (count == 0) as u64;
+            let share = 100.0 * count as f64 / of.max(1) as f64;
+            let mark = if count == 0 { "  NEVER REACHED" } else { "" };
+            println!("  {name:<50} {count:>8} {share:>7.3} %{mark}");
+        };
+        for call in Call::ALL {
+            let cases = self.calls[call as usize];
+            println!("{}: {cases} cases, shares of them", call.name());
+            for refusal in (0..17).filter(|refusal| call.may_give(*refusal)) {
+                let name =
+                    if refusal == 0 { "accepted".into() } else { format!("refusal {refusal}") };
+                line(&name, self.refusals[call as usize][refusal], cases);
+            }
+        }
+        let accepted = self.refusals[Call::Compare as usize][0];
+        println!("relations, shares of {accepted} accepted comparisons");
+        for relation in [Relation::NotKnown, Relation::Same, Relation::Apart] {
+            line(&format!("{relation:?}"), self.relations[relation as usize], accepted);
+        }
+        let cases = self.calls.iter().sum();
+        println!("rules and ends of walks, shares of all {cases} cases");
+        for event in Event::ALL {
+            line(event.text(), self.events.get(*event as usize).copied().unwrap_or(0), cases);
+        }
+        never
+    }
+}

@@ -1,0 +1,227 @@
+//! The rules. Rows are settled in ascending order, so each rule finds the rows it names final.
+
+use crate::normal::{Base, Normal};
+use crate::range::Range;
+use crate::row::{Ref, Row};
+use crate::watch::{Event, Watch};
+use crate::word::Width;
+
+#[derive(Clone, Copy, PartialEq, Eq, Debug)]
+pub enum Relation {
+    NotKnown,
+    Same,
+    Apart,
+}
+
+pub struct Simplifier<'w, W: Watch> {
+    width: Width,
+    rows: Vec<Row>,
+    /// One for each settled row, so that none is worked out twice; an array's is never asked for.
+    ranges: Vec<Range>,
+    watch: &'w mut W,
+}
+
+impl<'w, W: Watch> Simplifier<'w, W> {
+    pub fn new(width: Width, room: usize, watch: &'w mut W) -> Self {
+        let (rows, ranges) = (Vec::with_capacity(room), Vec::with_capacity(room));
+        Simplifier { width, rows, ranges, watch }
+    }
+
+    pub fn rows(&self) -> &[Row] {
+        &self.rows
+    }
+
+    /// Takes `row` as the next result row.
+    pub fn settle(&mut self, row: Row) {
+        let range = self.range(row);
+        self.rows.push(row);
+        self.ranges.push(range);
+    }
+
+    /// Works the next row out by its rule.
+    pub fn work_out(&mut self, row: Row) {
+        let row = match row {
+            Row::Const { .. } | Row::Var { .. } | Row::Fresh => row,
+            Row::Shift { a, k } => self.shift(a, k),
+            Row::Sum { a, b, k } => self.sum(a, b, k),
+            Row::Diff { a, b, k } => self.diff(a, b, k),
+            Row::Neg { a, k } => self.neg(a, k),
+            Row::Read { array, index } => self.read(array, index),
+            Row::Write { array, index, value } => self.write(array, index, value),
+        };
+        self.settle(row);
+    }
+
+    pub fn relation(&mut self, first: Ref, second: Ref) -> Relation {
+        let (one, other) = (self.normal(first), self.normal(second));
+        if one == other {
+            Relation::Same
+        } else if one.base == other.base {
+            self.watch.saw(Event::ApartByBase);
+            Relation::Apart
+        } else if !self.ranges[first].shares_a_number(self.ranges[second]) {
+            self.watch.saw(Event::ApartByRange);
+            Relation::Apart
+        } else {
+            Relation::NotKnown
+        }
+    }
+
+    fn normal(&self, word: Ref) -> Normal {
+        Normal::of(word, self.rows[word])
+    }
+
+    fn same(&self, first: Ref, second: Ref) -> bool {
+        self.normal(first) == self.normal(second)
+    }
+
+    fn plain_name(&mut self, word: Ref) -> Ref {
+        match self.rows[word] {
+            Row::Shift { a, k: 0 } => {
+                self.watch.saw(Event::PlainNameTaken);
+                a
+            }
+            _ => word,
+        }
+    }
+
+    fn shift(&mut self, a: Ref, k: u64) -> Row {
+        let Normal { base, offset } = self.normal(a);
+        self.watch.saw(match base {
+            Base::Nothing => Event::ShiftOfConstant,
+            Base::One(_) => Event::ShiftOfOne,
+            _ => Event::ShiftOfCompound,
+        });
+        Normal { base, offset: self.width.add(offset, k) }.written()
+    }
+
+    /// An operand that is not constant, as a row and an offset from it.
+    fn opened(&mut self, operand: Ref) -> (Ref, u64) {
+        match self.normal(operand) {
+            Normal { base: Base::One(x), offset } => (x, offset),
+            _ => {
+                self.watch.saw(Event::OpenedCompound);
+                (operand, 0)
+            }
+        }
+    }
+
+    fn sum(&mut self, a: Ref, b: Ref, k: u64) -> Row {
+        let width = self.width;
+        if let Some(p) = self.normal(a).constant() {
+            self.watch.saw(Event::SumLeftConstant);
+            return self.shift(b, width.add(p, k));
+        }
+        if let Some(q) = self.normal(b).constant() {
+            self.watch.saw(Event::SumRightConstant);
+            return self.shift(a, width.add(q, k));
+        }
+        let ((x, p), (y, q)) = (self.opened(a), self.opened(b));
+        self.watch.saw(if x <= y { Event::SumInOrder } else { Event::SumSwapped });
+        Row::Sum { a: x.min(y), b: x.max(y), k: width.add(width.add(p, q), k) }
+    }
+
+    fn diff(&mut self, a: Ref, b: Ref, k: u64) -> Row {
+        let width = self.width;
+        let (left, right) = (self.normal(a), self.normal(b));
+        // The rows' own bases are compared, before any opening.
+        if left.base == right.base {
+            self.watch.saw(Event::DiffEqualBases);
+            return Row::Const { k: width.add(width.sub(left.offset, right.offset), k) };
+        }
+        if let Some(q) = right.constant() {
+            self.watch.saw(Event::DiffRightConstant);
+            return self.shift(a, width.sub(k, q));
+        }
+        if let Some(p) = left.constant() {
+            self.watch.saw(Event::DiffLeftConstant);
+            return self.neg(b, width.add(k, p));
+        }
+        let ((x, p), (y, q)) = (self.opened(a), self.opened(b));
+        self.watch.saw(if x == y { Event::DiffOpenedEqual } else { Event::DiffOpened });
+        Row::Diff { a: x, b: y, k: width.add(width.sub(p, q), k) }
+    }
+
+    fn neg(&mut self, a: Ref, k: u64) -> Row {
+        let Normal { base, offset } = self.normal(a);
+        let rest = self.width.sub(k, offset);
+        let (event, row) = match base {
+            Base::Nothing => (Event::NegOfNothing, Row::Const { k: rest }),
+            Base::One(x) => (Event::NegOfOne, Row::Neg { a: x, k: rest }),
+            Base::Negative(x) => (Event::NegOfNegative, self.shift(x, rest)),
+            Base::Difference(x, y) => (Event::NegOfDifference, Row::Diff { a: y, b: x, k: rest }),
+            // The sum is named, not opened, so its offset stays in it.
+            Base::Sum(..) => (Event::NegOfSum, Row::Neg { a, k }),
+        };
+        self.watch.saw(event);
+        row
+    }
+
+    fn read(&mut self, from: Ref, index: Ref) -> Row {
+        let mut array = from;
+        let end = loop {
+            let Row::Write { array: below, index: at, value } = self.rows[array] else {
+                break Event::ReadStoppedAtFresh;
+            };
+            match self.relation(at, index) {
+                Relation::Same => {
+                    self.watch_walk(from, array, Event::ReadMetSame);
+                    return self.shift(value, 0);
+                }
+                Relation::Apart => array = below,
+                Relation::NotKnown => break Event::ReadStoppedUndecided,
+            }
+        };
+        self.watch_walk(from, array, end);
+        Row::Read { array, index: self.plain_name(index) }
+    }
+
+    fn watch_walk(&mut self, from: Ref, reached: Ref, end: Event) {
+        self.watch.saw(end);
+        if from != reached {
+            self.watch.saw(Event::ReadPassedStores);
+        }
+    }
+
+    fn write(&mut self, on: Ref, index: Ref, value: Ref) -> Row {
+        let mut array = on;
+        match self.rows[on] {
+            Row::Write { array: below, index: at, .. } if self.same(at, index) => {
+                array = below;
+                self.watch.saw(Event::WriteSkipped);
+                if matches!(self.rows[below], Row::Write { index: at, .. } if self.same(at, index))
+                {
+                    self.watch.saw(Event::WriteSkippedOntoSame);
+                }
+            }
+            _ => self.watch.saw(Event::WriteKept),
+        }
+        Row::Write { array, index: self.plain_name(index), value: self.plain_name(value) }
+    }
+
+    fn range(&mut self, row: Row) -> Range {
+        match row {
+            Row::Const { k } => Range::only(k),
+            Row::Var { low, high } => Range { low, high },
+            Row::Read { .. } | Row::Fresh | Row::Write { .. } => Range::full(self.width),
+            Row::Shift { a, k } => self.plus(self.ranges[a], Range::only(k)),
+            Row::Sum { a, b, k } => {
+                let both = self.plus(self.ranges[a], self.ranges[b]);
+                self.plus(both, Range::only(k))
+            }
+            Row::Diff { a, b, k } => {
+                let negated = self.ranges[b].negated(self.width, self.watch);
+                let both = self.plus(self.ranges[a], negated);
+                self.plus(both, Range::only(k))
+            }
+            Row::Neg { a, k } => {
+                let negated = self.ranges[a].negated(self.width, self.watch);
+                self.plus(Range::only(k), negated)
+            }
+        }
+    }
+
+    fn plus(&mut self, one: Range, other: Range) -> Range {
+        one.plus(other, self.width, self.watch)
+    }
+}

@@ -1,0 +1,66 @@
+//! Tables as text: what `show` prints, and the row language the example tables are written in.
+
+use crate::bytes::{numbers, table_bytes};
+use crate::check::{check_header, check_rows};
+use crate::row::Row;
+use crate::run;
+use crate::word::Width;
+use std::fmt::Write;
+
+/// What `show` prints for a table.
+pub fn shown(table: &[u8]) -> String {
+    let mut result = vec![0; table.len()];
+    let answer = run(table, &mut result);
+    if answer.refusal != 0 {
+        return format!("refused {} row {}\n", answer.refusal, answer.row);
+    }
+    let header = check_header(&result).expect("a result has its table's header");
+    let rows = check_rows(&result, header).expect("a result is well formed");
+    let mut text = format!("width {} rows {}\n", header.width.bits(), header.rows);
+    for (number, row) in rows.iter().enumerate() {
+        let (kind, [a, b, c], [k, h]) = numbers(*row);
+        writeln!(text, "{number} {kind} {a} {b} {c} {k} {h}").unwrap();
+    }
+    text
+}
+
+/// A table from `width 8` and rows such as `SHIFT 0 248`, each on a line or ended by a semicolon;
+/// `#` begins a remark. Nothing is checked but the words and the width, so that refused tables
+/// can be written too.
+pub fn packed(text: &str) -> Result<Vec<u8>, String> {
+    let mut width = None;
+    let mut rows = Vec::new();
+    let lines = text.lines().map(|line| line.split('#').next().unwrap_or(""));
+    for item in lines.flat_map(|line| line.split(';')) {
+        let mut words = item.split_whitespace();
+        let Some(name) = words.next() else { continue };
+        let fault = || format!("not understood: {item}");
+        let values: Vec<u64> =
+            words.map(str::parse).collect::<Result<_, _>>().map_err(|_| fault())?;
+        if name == "width" {
+            let bits = values.first().and_then(|bits| u8::try_from(*bits).ok());
+            width = Some(bits.and_then(Width::new).ok_or_else(fault)?);
+        } else {
+            rows.push(row(name, &values).ok_or_else(fault)?);
+        }
+    }
+    Ok(table_bytes(width.ok_or("no width given")?, &rows))
+}
+
+fn row(name: &str, values: &[u64]) -> Option<Row> {
+    let reference = |i: usize| values[i] as usize;
+    Some(match (name, values.len()) {
+        ("CONST", 1) => Row::Const { k: values[0] },
+        ("VAR", 2) => Row::Var { low: values[0], high: values[1] },
+        ("SHIFT", 2) => Row::Shift { a: reference(0), k: values[1] },
+        ("SUM", 3) => Row::Sum { a: reference(0), b: reference(1), k: values[2] },
+        ("DIFF", 3) => Row::Diff { a: reference(0), b: reference(1), k: values[2] },
+        ("NEG", 2) => Row::Neg { a: reference(0), k: values[1] },
+        ("READ", 2) => Row::Read { array: reference(0), index: reference(1) },
+        ("FRESH", 0) => Row::Fresh,
+        ("WRITE", 3) => {
+            Row::Write { array: reference(0), index: reference(1), value: reference(2) }
+        }
+        _ => return None,
+    })
+}

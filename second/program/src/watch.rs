@@ -1,0 +1,64 @@
+//! What a run can be seen to do, for those who count which rules a set of cases reaches.
+
+macro_rules! events {
+    ($($name:ident: $text:literal,)*) => {
+        #[derive(Clone, Copy, PartialEq, Eq, Debug)]
+        pub enum Event { $($name,)* }
+
+        impl Event {
+            pub const ALL: &'static [Event] = &[$(Event::$name,)*];
+
+            pub fn text(self) -> &'static str {
+                match self { $(Event::$name => $text,)* }
+            }
+        }
+    };
+}
+
+events! {
+    ReadMetSame: "read ends at a same store",
+    ReadStoppedUndecided: "read stops at a store not known",
+    ReadStoppedAtFresh: "read stops at a FRESH",
+    ReadPassedStores: "read passes at least one store",
+    WriteSkipped: "WRITE skips a store at its index",
+    WriteSkippedOntoSame: "WRITE skips once onto another store at its index",
+    WriteKept: "WRITE stands on its array",
+    PlainNameTaken: "a plain name replaces a SHIFT by 0",
+    ShiftOfConstant: "SHIFT of nothing",
+    ShiftOfOne: "SHIFT of one",
+    ShiftOfCompound: "SHIFT of a compound",
+    SumLeftConstant: "SUM, a constant",
+    SumRightConstant: "SUM, b constant",
+    SumInOrder: "SUM opened, order kept",
+    SumSwapped: "SUM opened, order swapped",
+    DiffEqualBases: "DIFF of equal bases",
+    DiffRightConstant: "DIFF, b constant",
+    DiffLeftConstant: "DIFF, a constant",
+    DiffOpened: "DIFF opened",
+    DiffOpenedEqual: "DIFF opened to x and x",
+    OpenedCompound: "a compound operand opened",
+    NegOfNothing: "NEG of nothing",
+    NegOfOne: "NEG of one",
+    NegOfNegative: "NEG of a negative",
+    NegOfDifference: "NEG of a difference",
+    NegOfSum: "NEG of a sum",
+    ApartByBase: "apart by equal bases",
+    ApartByRange: "apart by ranges alone",
+    RangeSumPlain: "range sum below 2^w",
+    RangeSumWraps: "range sum wholly wrapped",
+    RangeSumStraddles: "range sum straddling 2^w",
+    RangeNegatedZero: "range 0..0 negated",
+    RangeNegatedPositive: "range above 0 negated",
+    RangeNegatedFull: "range from 0 negated",
+    KeptMalformed: "kept result refused as a table",
+    KeptOtherHeader: "kept result with another header",
+    KeptOtherSort: "kept result with a row of the other sort",
+}
+
+pub trait Watch {
+    fn saw(&mut self, event: Event);
+}
+
+impl Watch for () {
+    fn saw(&mut self, _: Event) {}
+}

@@ -1,0 +1,55 @@
+//! Stezkoun for Rust: slices in, enums out. `numbers` gives the answers as C sees them.
+
+pub mod numbers;
+mod refusal;
+
+pub use refusal::Refusal;
+
+/// An accepted call.
+#[derive(Clone, Copy, PartialEq, Eq, Debug)]
+pub struct Done {
+    /// Rows that are READ in the table and not READ in the result.
+    pub removed: u64,
+    /// Rows that were worked out.
+    pub touched: u64,
+}
+
+/// What is known of two word rows.
+#[derive(Clone, Copy, PartialEq, Eq, Debug)]
+pub enum Relation {
+    NotKnown,
+    Same,
+    Apart,
+}
+
+/// Simplifies `table` into the first bytes of `result`.
+pub fn run(table: &[u8], result: &mut [u8]) -> Result<Done, Refusal> {
+    outcome(numbers::run(table, result))
+}
+
+/// Replaces row `row` of `table` and works out what depends on it in the kept result.
+pub fn edit(
+    table: &mut [u8], kept: &mut [u8], row: u64, replacement: &[u8],
+) -> Result<Done, Refusal> {
+    outcome(numbers::edit(table, kept, row, replacement))
+}
+
+/// Simplifies `table` into `result` and compares two of its word rows.
+pub fn compare(
+    table: &[u8], result: &mut [u8], first: u64, second: u64,
+) -> Result<(Done, Relation), Refusal> {
+    let comparison = numbers::compare(table, result, first, second);
+    let relation = match comparison.relation {
+        1 => Relation::Same,
+        2 => Relation::Apart,
+        _ => Relation::NotKnown,
+    };
+    outcome(comparison.answer).map(|done| (done, relation))
+}
+
+fn outcome(answer: numbers::Answer) -> Result<Done, Refusal> {
+    match Refusal::from_numbers(answer.refusal, answer.row) {
+        None => Ok(Done { removed: answer.removed, touched: answer.touched }),
+        Some(refusal) => Err(refusal),
+    }
+}

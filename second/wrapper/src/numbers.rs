@@ -1,0 +1,65 @@
+//! The C functions over slices, with their answers as bare numbers.
+
+#[repr(C)]
+#[derive(Clone, Copy, PartialEq, Eq, Debug)]
+pub struct Answer {
+    pub refusal: u64,
+    pub row: u64,
+    pub removed: u64,
+    pub touched: u64,
+}
+
+#[repr(C)]
+#[derive(Clone, Copy, PartialEq, Eq, Debug)]
+pub struct Comparison {
+    pub answer: Answer,
+    pub relation: u64,
+}
+
+extern "C" {
+    fn stezkoun_run(
+        table: *const u8, table_len: usize, result: *mut u8, result_len: usize,
+    ) -> Answer;
+    fn stezkoun_edit(
+        table: *mut u8, table_len: usize, kept: *mut u8, kept_len: usize, row: u64,
+        replacement: *const u8, replacement_len: usize,
+    ) -> Answer;
+    fn stezkoun_compare(
+        table: *const u8, table_len: usize, result: *mut u8, result_len: usize, first: u64,
+        second: u64,
+    ) -> Comparison;
+}
+
+// Slices are never null, and the borrow rules keep lent buffers from overlapping: that is all
+// the C functions ask of their callers.
+
+pub fn run(table: &[u8], result: &mut [u8]) -> Answer {
+    unsafe { stezkoun_run(table.as_ptr(), table.len(), result.as_mut_ptr(), result.len()) }
+}
+
+pub fn edit(table: &mut [u8], kept: &mut [u8], row: u64, replacement: &[u8]) -> Answer {
+    unsafe {
+        stezkoun_edit(
+            table.as_mut_ptr(),
+            table.len(),
+            kept.as_mut_ptr(),
+            kept.len(),
+            row,
+            replacement.as_ptr(),
+            replacement.len(),
+        )
+    }
+}
+
+pub fn compare(table: &[u8], result: &mut [u8], first: u64, second: u64) -> Comparison {
+    unsafe {
+        stezkoun_compare(
+            table.as_ptr(),
+            table.len(),
+            result.as_mut_ptr(),
+            result.len(),
+            first,
+            second,
+        )
+    }
+}
