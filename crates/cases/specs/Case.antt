@@ -1,11 +1,11 @@
 -- What a case says of the definitions, and the test of it.
-use Prim.Native.Nat.{ℕ, zero, suc, _^_}
+use Prim.Native.Nat.{ℕ, _^_}
 use mathlib.Core.Bool.{Bool, true, false, _&&_}
-use mathlib.Core.List.{List, [], _∷_, _++_, map}
+use mathlib.Core.List.{List, [], _∷_, _++_}
 use lib.ListN.{length, replicate}
 use lib.Dec.{eqb}
 use Rattle.range.specs.declared.Range.{Range}
-use Rattle.range.specs.Range.{span, negation}
+use Rattle.range.specs.Range.{negation}
 use Rattle.range.specs.Range as range
 use Rattle.row.specs.Bytes.{bytes, bytesOf}
 use Rattle.term.specs.Term.{Term, rowOf}

@@ -1,8 +1,8 @@
 -- P1 to P10.
-use Prim.Native.Nat.{ℕ, _-_, _^_}
+use Prim.Native.Nat.{_-_, _^_}
 use mathlib.Core.List.{List, [], _∷_}
 use Rattle.range.specs.Range.{span}
-use Rattle.term.specs.Term.{Term, const, var, shift, sum, diff, neg, read, fresh, write}
+use Rattle.term.specs.Term.{Term, const, var, shift, diff, read, fresh, write}
 use Rattle.cases.specs.Case.{Case, plus, negated, runs, edits, refuses}
 
 -- the table of P1

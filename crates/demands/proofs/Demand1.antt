@@ -8,7 +8,7 @@ use Rattle.basis.proofs.Pick.{pick-false}
 use Rattle.simplify.specs.Answer.{isAccepted, answer, answered}
 use Rattle.simplify.specs.Run.{runVerdict, runAnswer, runResult}
 use Rattle.simplify.specs.Edit.{editVerdict, editAnswer, editTable, editKept}
-use Rattle.simplify.specs.Compare.{compareVerdict, compareAnswer, compareResult}
+use Rattle.simplify.specs.Compare.{compareVerdict, compareResult}
 
 module _ (t buffer : List ℕ) (refused : isAccepted (runVerdict t buffer) ≡ false) where
   pub run-changes-nothing : runResult t buffer ≡ buffer

@@ -1,10 +1,10 @@
 -- Demand 2, of bytes: under every permitted choice each row of the result that a fresh run leaves means what its original means; its range holds that value;
 -- rows that a comparison reports same are equal, and rows that it reports apart differ. Nothing is assumed but "accepted" and "permitted", and for every
 -- accepted table there is a permitted choice.
-use Prim.Native.Nat.{ℕ, _^_, _<_}
+use Prim.Native.Nat.{ℕ, _<_}
 use lib.Pow.{pow-pos}
-use mathlib.Core.Path.{_≡_, refl, ap, sym, fun-ext, _∙_}
-use mathlib.Core.Bool.{true, cond}
+use mathlib.Core.Path.{_≡_, ap, sym, fun-ext, _∙_}
+use mathlib.Core.Bool.{true}
 use mathlib.Core.List.{List}
 use lib.ListN.{length, take}
 use Rattle.basis.proofs.Pick.{pick-true}

@@ -1,13 +1,12 @@
 -- Demand 3, of bytes: after an accepted edit a kept result that was the table's own is, byte for byte, what a fresh run of the edited table leaves there, and is
 -- the edited table's own; so after any number of accepted edits. A row that is not r and does not lead back to r keeps its bytes, in any kept result.
-use Prim.Native.Nat.{ℕ, _≤_, _<_}
-use mathlib.Core.Path.{_≡_, refl, ap, sym, _∙_}
-use mathlib.Core.Bool.{true, false, cond}
-use mathlib.Core.Logic.{_⊎_, ⊎-elim}
+use Prim.Native.Nat.{ℕ, _≤_}
+use mathlib.Core.Path.{_≡_, ap, sym, _∙_}
+use mathlib.Core.Bool.{true, false}
+use mathlib.Core.Logic.{⊎-elim}
 use mathlib.Core.List.{List}
-use lib.ListN.{length, take, drop}
-use lib.Seq.{sets, length-sets}
-use Rattle.basis.specs.Reason.{first}
+use lib.ListN.{length, take}
+use lib.Seq.{length-sets}
 use Rattle.basis.proofs.Pick.{pick-true, test-case}
 use Rattle.row.specs.Names.{HEADER, place}
 use Rattle.row.proofs.Places.{header-below}
@@ -17,13 +16,13 @@ use Rattle.table.specs.Accepted.{Accepted}
 use Rattle.table.proofs.Accepts.{accepted-gives}
 use Rattle.term.specs.Leads.{LeadsBack}
 use Rattle.term.specs.Result.{touchedBy}
-use Rattle.term.specs.Bytes.{look, putRows}
+use Rattle.term.specs.Bytes.{look}
 use Rattle.term.proofs.WellFormed.{formed-below}
 use Rattle.term.proofs.Touched.{touched-is}
 use Rattle.term.proofs.Accepted.{accepted-formed}
 use Rattle.term.proofs.There.{rowBytes, rows-stay}
 use Rattle.simplify.specs.Answer.{isAccepted}
-use Rattle.simplify.specs.Run.{roomReasons, runVerdict, freshRows, freshBytes, runResult}
+use Rattle.simplify.specs.Run.{runVerdict, freshBytes, runResult}
 use Rattle.simplify.specs.Edit.{edited, editVerdict, editedRows, editedBytes, editTable, editKept}
 use Rattle.simplify.proofs.Verdicts.{table-passes, head-same}
 use Rattle.simplify.proofs.Granted.{run-granted, grant-run, EditGranted, edit-granted}
@@ -32,7 +31,7 @@ use Rattle.demands.proofs.Fresh.{fresh-head, fresh-length, fresh-there,
 use Rattle.demands.proofs.EditIsRun.{edited-bytes}
 
 -- an accepted run leaves the fresh result, which is the table's own
-run-leaves : (t buffer : List ℕ) → isAccepted (runVerdict t buffer) ≡ true → runResult t buffer ≡ freshBytes t buffer
+pub run-leaves : (t buffer : List ℕ) → isAccepted (runVerdict t buffer) ≡ true → runResult t buffer ≡ freshBytes t buffer
 unfolding runResult
 run-leaves t buffer granted = pick-true (isAccepted (runVerdict t buffer)) _ _ granted
 

@@ -1,7 +1,7 @@
 -- An edit of a table with its own kept result leaves what a fresh run of the edited table leaves.
 use Prim.Native.Nat.{ℕ, _^_, _≤_, _<_}
 use mathlib.Core.Path.{_≡_, refl, ap, sym, fun-ext, _∙_}
-use mathlib.Core.Bool.{Bool, true, false}
+use mathlib.Core.Bool.{true, false}
 use mathlib.Core.List.{List}
 use lib.ListN.{length, take}
 use Rattle.basis.proofs.Pick.{test-case}

@@ -4,4 +4,5 @@ pub mod EditIsRun
 pub mod Demand1
 pub mod Demand2
 pub mod Demand3
+pub mod OwnKept
 pub mod Determined

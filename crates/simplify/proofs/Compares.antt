@@ -1,8 +1,8 @@
 -- A comparison: what its parts ask, and that what they leave is what the public promise says.
 use Prim.Native.Nat.{ℕ, _+_, _≤_, _<_}
 use native.Mathlib.Omega.{arith}
-use mathlib.Core.Path.{_≡_, refl, ap, ap₂, sym, _∙_}
-use mathlib.Core.Bool.{Bool, true, false, cond}
+use mathlib.Core.Path.{_≡_, ap, ap₂, sym, _∙_}
+use mathlib.Core.Bool.{true, false}
 use mathlib.Core.List.{List}
 use lib.ListN.{length, take}
 use lib.Seq.{sets, length-sets}
@@ -16,9 +16,10 @@ use Rattle.row.specs.Names.{HEADER, LENGTH, place}
 use Rattle.row.specs.Bytes.{Read}
 use Rattle.row.proofs.Places.{header-below, room-in}
 use Rattle.table.specs.declared.Verdict.{Verdict}
-use Rattle.table.specs.Refusals.{rows, MOST, refuse, accepted, given, checkRows, checkTable}
+use Rattle.table.specs.Refusals.{rows, MOST, refuse, checkRows}
 use Rattle.table.specs.Accepted.{Accepted}
 use Rattle.table.proofs.Accepts.{accepted-gives}
+use Rattle.table.proofs.Faulty.{given-passes, given-refuses}
 use Rattle.term.specs.declared.Relation.{Relation}
 use Rattle.term.specs.declared.Relation.the-variants.{Unknown}
 use Rattle.term.specs.Term.{Term}
@@ -32,11 +33,11 @@ use Rattle.simplify.specs.declared.Answer.{Answer}
 use Rattle.simplify.specs.declared.Comparison.{Comparison}
 use Rattle.simplify.specs.Answer.{modulus, isAccepted, answer, answered}
 use Rattle.simplify.specs.Judge.{PairThere}
-use Rattle.simplify.specs.Run.{roomReasons, freshRows, freshBytes}
+use Rattle.simplify.specs.Run.{freshRows, freshBytes}
 use Rattle.simplify.specs.Fresh.{CanFresh, Freshly}
 use Rattle.simplify.specs.Compare.{pairReasons, arrayVerdict, compareVerdict, freshRelation, unknown, PairReached, compareAnswer, compareResult, Compared}
-use Rattle.simplify.proofs.Verdicts.{accepted-is, given-zero, given-refused}
-use Rattle.simplify.proofs.Granted.{Roomy, CompareGranted, pair-granted, compare-granted}
+use Rattle.simplify.proofs.Verdicts.{accepted-is}
+use Rattle.simplify.proofs.Granted.{CompareGranted, pair-granted, compare-granted}
 use Rattle.simplify.proofs.FreshRun.{answer-is as numbers-are, accepted-answer}
 
 -- rows that agree at x and y are related alike
@@ -59,7 +60,7 @@ module _ (t buffer : List ℕ) (x y : ℕ) where
     pub pair-refused : {c : Comparison} → (number ≡ 0 → ⊥) → c ≡ unknown number 0 → Compared t buffer x y c buffer
     unfolding compareVerdict refuse
     pair-refused h is =
-        refused-by (given-refused _ 0 (checkRows t (arrayVerdict t x y)) (λ z. h (paired ∙ z))) (λ z. h (paired ∙ z)) (is ∙ ap (λ (n : ℕ). unknown n 0) paired)
+        refused-by (given-refuses _ 0 (checkRows t (arrayVerdict t x y)) (λ z. h (paired ∙ z))) (λ z. h (paired ∙ z)) (is ∙ ap (λ (n : ℕ). unknown n 0) paired)
 
     pub pair-there : number ≡ 0 → PairThere t x y
     pair-there z = pair-granted t buffer x y (sym paired ∙ z) .1
@@ -67,7 +68,7 @@ module _ (t buffer : List ℕ) (x y : ℕ) where
     module _ (z : number ≡ 0) {v : Verdict} (judged : v ≡ checkRows t (arrayVerdict t x y)) where
       verdict-is : compareVerdict t buffer x y ≡ v
       unfolding compareVerdict
-      verdict-is = given-zero _ 0 (checkRows t (arrayVerdict t x y)) (sym paired ∙ z) ∙ sym judged
+      verdict-is = given-passes _ 0 (checkRows t (arrayVerdict t x y)) (sym paired ∙ z) ∙ sym judged
 
       pub words-refused : {c : Comparison} → (v .number ≡ 0 → ⊥) → c ≡ unknown (v .number) (v .row) → Compared t buffer x y c buffer
       words-refused h is = refused-by verdict-is h is

@@ -1,12 +1,11 @@
 -- Copying byte after byte: after i of them, the first i stand in their place.
-use Prim.Native.Nat.{ℕ, suc, _+_, _<_, _≤_}
-use native.Mathlib.Nat.{add-zero, zero-add, add-assoc}
+use Prim.Native.Nat.{ℕ, _+_, _<_, _≤_}
 use native.Mathlib.Numerals.{add-one}
 use native.Mathlib.Omega.{arith}
 use mathlib.Core.Path.{_≡_, refl, ap, sym, _∙_}
 use mathlib.Core.List.{List, [], _∷_, _++_}
 use lib.ListN.{length, getD, take, drop, set, length-drop, length-set}
-use lib.Seq.{sets, length-sets, take-suc, length-take-le, getD-drop}
+use lib.Seq.{sets, take-suc, length-take-le, getD-drop}
 use Rattle.row.proofs.Sets.{sets-append}
 use Rattle.simplify.specs.Copy.{Rooms}
 

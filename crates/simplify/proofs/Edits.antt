@@ -1,9 +1,9 @@
 -- An edit: rows moved as bytes, what its parts ask, and that what they leave is what the public promise says.
-use Prim.Native.Nat.{ℕ, _+_, _≤_, _<_}
+use Prim.Native.Nat.{ℕ, _+_, _≤_}
 use native.Mathlib.Nat.{zero-add}
 use native.Mathlib.Omega.{arith}
-use mathlib.Core.Path.{_≡_, refl, ap, ap₂, sym, _∙_}
-use mathlib.Core.Bool.{Bool, true, false, cond}
+use mathlib.Core.Path.{_≡_, ap, ap₂, sym, _∙_}
+use mathlib.Core.Bool.{true, false}
 use mathlib.Core.List.{List, _++_, append-nil}
 use lib.ListN.{length, take, drop, length-drop, replicate, length-replicate}
 use lib.Seq.{sets, sets-eq, take-all, drop-length, length-sets, length-take-le}
@@ -16,8 +16,9 @@ use Rattle.row.proofs.Sets.{sets-undone}
 use Rattle.row.proofs.Places.{header-below, room-in}
 use Rattle.row.proofs.Rows.{take-stays}
 use Rattle.table.specs.declared.Verdict.{Verdict}
-use Rattle.table.specs.Refusals.{rows, refuse, accepted, given, headReasons, checkRows, checkTable}
+use Rattle.table.specs.Refusals.{rows, refuse, accepted, headReasons, checkRows, checkTable}
 use Rattle.table.proofs.Heads.{good-head}
+use Rattle.table.proofs.Faulty.{given-passes, given-refuses}
 use Rattle.term.specs.Result.{removedRows}
 use Rattle.term.specs.Bytes.{look}
 use Rattle.term.proofs.Acceptable.{same-rows}
@@ -26,7 +27,7 @@ use Rattle.simplify.specs.Answer.{isAccepted, answer, answered}
 use Rattle.simplify.specs.Judge.{EditThere}
 use Rattle.simplify.specs.Edit.{edited, keptPart, keptWrong, keptVerdict, editReasons, editVerdict, editedRows, editedBytes, touchedRows, editAnswer, editTable, editKept, Edited}
 use Rattle.simplify.specs.Patch.{CanTake, CanPut, CanPatch, Patched}
-use Rattle.simplify.proofs.Verdicts.{accepted-is, given-zero, given-refused, table-passes, head-same}
+use Rattle.simplify.proofs.Verdicts.{accepted-is, table-passes, head-same}
 use Rattle.simplify.proofs.Granted.{EditReady, edit-ready, EditGranted, edit-granted}
 use Rattle.simplify.proofs.FreshRun.{accepted-answer}
 
@@ -65,7 +66,7 @@ module _ (t kept : List ℕ) (r : ℕ) (new : List ℕ) where
     pub edit-refused : {a : Answer} → (number ≡ 0 → ⊥) → a ≡ answer number 0 0 0 → Edited t kept r new a t kept
     unfolding editVerdict refuse
     edit-refused h is =
-        refused-by (given-refused _ 0 (checkRows (edited t r new) (keptVerdict (edited t r new) (keptPart t kept))) (λ z. h (numbered ∙ z))) (λ z. h (numbered ∙ z))
+        refused-by (given-refuses _ 0 (checkRows (edited t r new) (keptVerdict (edited t r new) (keptPart t kept))) (λ z. h (numbered ∙ z))) (λ z. h (numbered ∙ z))
         (is ∙ ap (λ (n : ℕ). answer n 0 0 0) numbered)
 
     module _ (z : number ≡ 0) where
@@ -120,7 +121,7 @@ module _ (t kept : List ℕ) (r : ℕ) (new : List ℕ) where
             verdict-is : editVerdict t kept r new ≡ v
             unfolding editVerdict
             verdict-is =
-                given-zero _ 0 _ (sym numbered ∙ z) ∙
+                given-passes _ 0 _ (sym numbered ∙ z) ∙
                 ap₂ (λ (l m : List ℕ). checkRows l (keptVerdict l m)) (sym put) parts ∙ sym judged
 
             pub edited-refused : {t″ : List ℕ} {a : Answer} → (v .number ≡ 0 → ⊥) → t″ ≡ edited t′ r old → a ≡ answer (v .number) (v .row) 0 0 → Edited t kept r new a t″ kept

@@ -1,35 +1,29 @@
 -- A fresh run: what its parts ask, and that what they leave is what the public promise says.
-use Prim.Native.Nat.{ℕ, _+_, _^_, _≤_, _<_}
+use Prim.Native.Nat.{ℕ, _^_, _≤_, _<_}
 use native.Mathlib.Omega.{arith}
-use lib.Pow.{pow-pos}
-use mathlib.Core.Path.{_≡_, refl, ap, ap₂, sym, subst, _∙_}
-use mathlib.Core.Bool.{Bool, true, false, cond, true≢false}
+use mathlib.Core.Path.{_≡_, refl, ap, ap₂, sym, _∙_}
+use mathlib.Core.Bool.{true, false, true≢false}
 use mathlib.Core.List.{List}
-use lib.ListN.{length, take, drop, getD, replicate, getD-replicate}
+use lib.ListN.{length, take, replicate, getD-replicate}
 use lib.Seq.{sets, length-sets}
 use lib.Dec.{eqb}
-use borrow.Author.Tests.{eq-eqb, ne-eqb}
-use Rattle.basis.proofs.Pick.{pick-true, pick-false}
-use Rattle.range.specs.Store.{kept}
+use borrow.Author.Tests.{ne-eqb}
 use Rattle.row.specs.Names.{HEADER, place}
 use Rattle.row.specs.Bytes.{Read}
 use Rattle.row.proofs.Places.{header-below}
 use Rattle.table.specs.declared.Verdict.{Verdict}
-use Rattle.table.specs.Refusals.{width, rows, MOST, refuse, accepted, checkRows, checkTable}
+use Rattle.table.specs.Refusals.{width, rows, MOST, refuse, accepted}
 use Rattle.table.specs.Accepted.{Accepted}
 use Rattle.table.proofs.Accepts.{accepted-gives}
-use Rattle.term.specs.Term.{Term}
-use Rattle.term.specs.Relation.{rangeOf}
-use Rattle.term.specs.Result.{renewed, result, removedRows}
-use Rattle.term.specs.WellFormed.{Names}
-use Rattle.term.specs.Bytes.{look, putRows}
+use Rattle.term.specs.Result.{result, removedRows}
+use Rattle.term.specs.Bytes.{look}
 use Rattle.term.proofs.Names.{NamesBelow}
 use Rattle.term.proofs.WellFormed.{formed-below}
 use Rattle.term.proofs.Accepted.{accepted-formed}
 use Rattle.simplify.specs.declared.Answer.{Answer}
-use Rattle.simplify.specs.Answer.{modulus, LIMIT, isAccepted, answer, answered}
+use Rattle.simplify.specs.Answer.{modulus, isAccepted, answer, answered}
 use Rattle.simplify.specs.Copy.{Rooms}
-use Rattle.simplify.specs.Renew.{marked, outcome, CanRenew, Renewed}
+use Rattle.simplify.specs.Renew.{marked, CanRenew, Renewed}
 use Rattle.simplify.specs.Run.{runVerdict, freshRows, freshBytes, runAnswer, runResult, Ran}
 use Rattle.simplify.specs.Fresh.{CanFresh, Freshly}
 use Rattle.simplify.proofs.Verdicts.{accepted-is}

@@ -1,18 +1,18 @@
 -- What an accepted run, edit and comparison have: the reasons, one by one, do not hold.
-use Prim.Native.Nat.{ℕ, _+_, _≤_, _<_}
-use native.Mathlib.Omega.{arith}
-use mathlib.Core.Path.{_≡_, refl, ap, sym, _∙_}
-use mathlib.Core.Bool.{Bool, true, false, cond, not, _||_}
-use mathlib.Core.List.{List, [], _∷_, _++_}
+use Prim.Native.Nat.{ℕ, _≤_, _<_}
+use mathlib.Core.Path.{_≡_, refl, ap, _∙_}
+use mathlib.Core.Bool.{true, false, not, _||_}
+use mathlib.Core.List.{List, [], _∷_}
 use lib.ListN.{length}
 use lib.Dec.{ltb, leb, eqb}
 use borrow.Author.Tests.{ltb-false, le-ltb, leb-false, eqb-true, not-false}
-use Rattle.basis.specs.Reason.{Reason, _when_, first}
+use Rattle.basis.specs.Reason.{_when_, first}
 use Rattle.basis.proofs.Pick.{or-left, or-right}
 use Rattle.basis.proofs.Reasons.{numbered, first-none, first-skips, append-skips, append-first, append-second}
 use Rattle.row.specs.Names.{LENGTH}
 use Rattle.table.specs.declared.Verdict.{Verdict}
 use Rattle.table.specs.Refusals.{rows, refuse, accepted, given, checkRows, checkTable, headReasons}
+use Rattle.table.proofs.Faulty.{given-passes}
 use Rattle.term.specs.Term.{isArray}
 use Rattle.term.specs.Bytes.{look}
 use Rattle.simplify.specs.Answer.{isAccepted}
@@ -20,7 +20,7 @@ use Rattle.simplify.specs.Run.{roomReasons, runVerdict}
 use Rattle.simplify.specs.Edit.{edited, keptPart, keptWrong, keptVerdict, editReasons, editVerdict}
 use Rattle.simplify.specs.Compare.{pairReasons, arrayReasons, arrayVerdict, compareVerdict}
 use Rattle.simplify.specs.Judge.{PairThere}
-use Rattle.simplify.proofs.Verdicts.{is-accepted, accepted-is, given-zero, given-number, given-after, rows-pass, rows-after, table-passes, head-numbered}
+use Rattle.simplify.proofs.Verdicts.{is-accepted, accepted-is, given-number, given-after, rows-pass, rows-after, table-passes, head-numbered}
 
 -- 1 to 6 do not hold
 pub record Roomy (t buffer : List ℕ) : Type 0 where
@@ -50,7 +50,7 @@ run-granted t buffer e =
     let z : given (first (roomReasons t buffer)) 0 (checkRows t accepted) .number ≡ 0 = is-accepted _ e in
     let ready : Roomy t buffer = roomy t buffer (given-number _ 0 (checkRows t accepted) z) in
     record {
-      verdict = given-zero _ 0 (checkRows t accepted) (given-number _ 0 (checkRows t accepted) z) ∙ rows-pass t accepted accepted (given-after _ 0 (checkRows t accepted) z);
+      verdict = given-passes _ 0 (checkRows t accepted) (given-number _ 0 (checkRows t accepted) z) ∙ rows-pass t accepted accepted (given-after _ 0 (checkRows t accepted) z);
       roomy = ready;
       table = table-passes t accepted (ready .head) (given-after _ 0 (checkRows t accepted) z);
     }
@@ -86,8 +86,8 @@ edit-granted t kept r x e =
     let scanned : checkRows (edited t r x) last .number ≡ 0 = given-after _ 0 _ z in
     record {
       verdict =
-          given-zero _ 0 (checkRows (edited t r x) last) zero-first ∙ rows-pass (edited t r x) last last scanned ∙
-          given-zero _ 0 accepted (given-number _ 0 accepted (rows-after (edited t r x) last scanned));
+          given-passes _ 0 (checkRows (edited t r x) last) zero-first ∙ rows-pass (edited t r x) last last scanned ∙
+          given-passes _ 0 accepted (given-number _ 0 accepted (rows-after (edited t r x) last scanned));
       ready = edit-ready t kept r x zero-first;
       rows-pass = rows-pass (edited t r x) last accepted scanned;
       kept-right = first-none (16 when keptWrong (edited t r x) (keptPart t kept) ∷ []) refl (given-number _ 0 accepted (rows-after (edited t r x) last scanned)) .0;
@@ -129,8 +129,8 @@ compare-granted t buffer x y e =
     let there : PairThere t x y = pair-granted t buffer x y zero-first .1 in
     record {
       verdict =
-          given-zero _ 0 (checkRows t last) zero-first ∙ rows-pass t last last scanned ∙
-          given-zero _ x second (given-number _ x second after) ∙ given-zero _ y accepted (given-number _ y accepted (given-after _ x second after));
+          given-passes _ 0 (checkRows t last) zero-first ∙ rows-pass t last last scanned ∙
+          given-passes _ x second (given-number _ x second after) ∙ given-passes _ y accepted (given-number _ y accepted (given-after _ x second after));
       roomy = ready;
       table = table-passes t last (ready .head) scanned;
       first-row = there .first-row;
@@ -148,4 +148,4 @@ grant-run t buffer passes room =
     let roomy : first (roomReasons t buffer) ≡ 0 =
     append-skips (headReasons t) _ (head-numbered t) head ∙ first-skips 6 (ltb (length buffer) (length t)) [] (le-ltb (length buffer) (length t) room) in
     accepted-is _
-    (ap (λ (v : Verdict). v .number) (given-zero (first (roomReasons t buffer)) 0 (checkRows t accepted) roomy) ∙ given-after _ 0 (checkRows t accepted) z)
+    (ap (λ (v : Verdict). v .number) (given-passes (first (roomReasons t buffer)) 0 (checkRows t accepted) roomy) ∙ given-after _ 0 (checkRows t accepted) z)

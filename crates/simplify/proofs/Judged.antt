@@ -1,11 +1,10 @@
 -- Each way out of the functions that judge: the number answered is that of the first reason that holds.
 use Prim.Native.Nat.{ℕ, _+_, _≤_, _<_}
-use native.Mathlib.Omega.{arith}
 use mathlib.Core.Path.{_≡_, refl, ap, sym, _∙_}
-use mathlib.Core.Bool.{Bool, true, false, cond, not, _||_}
+use mathlib.Core.Bool.{Bool, true, false, not}
 use mathlib.Core.List.{List, [], _∷_, _++_}
 use lib.ListN.{length}
-use lib.Dec.{ltb, leb, eqb}
+use lib.Dec.{leb, eqb}
 use borrow.Author.Tests.{lt-ltb, le-ltb, le-leb, lt-leb, eq-eqb, ne-eqb}
 use Rattle.basis.specs.Reason.{Reason, _when_, first}
 use Rattle.basis.proofs.Pick.{or-true-left, or-true-right, or-false}
@@ -16,6 +15,7 @@ use Rattle.table.specs.declared.Verdict.{Verdict}
 use Rattle.table.specs.Uses.{ARRAY, sortOf}
 use Rattle.table.specs.Refusals.{rows, refuse, accepted, given, checkRows, headReasons}
 use Rattle.table.proofs.Heads.{long-head, good-head}
+use Rattle.table.proofs.Faulty.{given-passes, given-refuses}
 use Rattle.table.proofs.Exactly.{before-after}
 use Rattle.row.proofs.Places.{room-in}
 use Rattle.term.specs.Term.{isArray}
@@ -24,9 +24,9 @@ use Rattle.term.proofs.Rows.{sort-term}
 use Rattle.simplify.specs.Run.{roomReasons, runVerdict}
 use Rattle.simplify.specs.Edit.{editReasons, keptWrong, keptVerdict}
 use Rattle.simplify.specs.Compare.{pairReasons, arrayReasons, arrayVerdict}
-use Rattle.simplify.proofs.Verdicts.{given-zero, given-refused, rows-pass, head-numbered}
+use Rattle.simplify.proofs.Verdicts.{rows-pass, head-numbered}
 use Rattle.simplify.specs.Judge.{Holding, PairThere, EditThere}
-use Rattle.simplify.proofs.Granted.{room-numbered, Roomy, roomy}
+use Rattle.simplify.proofs.Granted.{room-numbered, roomy}
 
 -- a number that is not 0 is the first of any longer list too
 later : (xs ys : List Reason) {number : ℕ} → number ≡ first xs → (number ≡ 0 → ⊥) → number ≡ first (xs ++ ys)
@@ -54,14 +54,14 @@ module _ (t buffer : List ℕ) {number : ℕ} where
 module _ (t buffer : List ℕ) {number : ℕ} where
   pub run-refused : number ≡ first (roomReasons t buffer) → (number ≡ 0 → ⊥) → _≡_ {A = Verdict} (record { number = number; row = 0 }) (runVerdict t buffer)
   unfolding runVerdict refuse
-  run-refused e h = ap (λ (n : ℕ). refuse n 0) e ∙ sym (given-refused (first (roomReasons t buffer)) 0 (checkRows t accepted) (λ z. h (e ∙ z)))
+  run-refused e h = ap (λ (n : ℕ). refuse n 0) e ∙ sym (given-refuses (first (roomReasons t buffer)) 0 (checkRows t accepted) (λ z. h (e ∙ z)))
 
   pub head-passes : number ≡ first (roomReasons t buffer) → number ≡ 0 → first (headReasons t) ≡ 0
   head-passes e z = roomy t buffer (sym e ∙ z) .head
 
   pub run-judged : {v : Verdict} → number ≡ first (roomReasons t buffer) → number ≡ 0 → v ≡ checkRows t accepted → v ≡ runVerdict t buffer
   unfolding runVerdict
-  run-judged e z f = f ∙ sym (given-zero (first (roomReasons t buffer)) 0 (checkRows t accepted) (sym e ∙ z))
+  run-judged e z f = f ∙ sym (given-passes (first (roomReasons t buffer)) 0 (checkRows t accepted) (sym e ∙ z))
 
 -- a table whose head passes has a header
 pub header-there : (t buffer : List ℕ) {number : ℕ} → number ≡ first (roomReasons t buffer) → number ≡ 0 → HEADER ≤ length t

@@ -2,14 +2,14 @@
 use Prim.Native.Nat.{ℕ, _+_, _≤_, _<_}
 use native.Mathlib.Omega.{arith}
 use mathlib.Core.Path.{_≡_, refl, ap, ap₂, sym, _∙_}
-use mathlib.Core.Bool.{Bool, true, false, Bool·beq, not, _||_}
+use mathlib.Core.Bool.{Bool, true, false, Bool·beq, not}
 use mathlib.Core.List.{List}
 use lib.ListN.{length, getD, take}
 use lib.Seq.{length-take-le}
 use lib.Dec.{eqb}
 use borrow.Author.Tests.{eq-eqb, ne-eqb}
 use Rattle.basis.specs.Count.{anyBelow}
-use Rattle.basis.proofs.Pick.{or-true-left, or-true-right, or-false}
+use Rattle.basis.proofs.Pick.{or-true-left, or-true-right}
 use Rattle.basis.proofs.Counts.{any-zero, any-next, any-here}
 use Rattle.row.specs.Names.{HEADER, LENGTH, place}
 use Rattle.row.specs.Bytes.{byte}

@@ -1,28 +1,26 @@
 -- Marking: what a row names, by the fields that its kind uses; and the loop, after which the touched rows are marked.
-use Prim.Native.Nat.{ℕ, suc, _+_, _≤_, _<_}
+use Prim.Native.Nat.{ℕ, _+_, _≤_, _<_}
 use native.Mathlib.Omega.{arith}
 use native.Mathlib.Decide.{decLt}
 use mathlib.Core.Path.{_≡_, refl, ap, ap₂, sym, _∙_}
-use mathlib.Core.Bool.{Bool, true, false, cond, not, _&&_, _||_}
+use mathlib.Core.Bool.{Bool, true, false, cond, _&&_, _||_}
 use mathlib.Core.Logic.{dite}
 use mathlib.Core.List.{List}
 use lib.ListN.{length, getD, set, length-set}
 use lib.Seq.{getD-set-same, getD-set-other}
-use lib.Dec.{eqb, lit<}
-use borrow.Author.Tests.{eqb-true, eqb-false, eq-eqb, ne-eqb}
+use lib.Dec.{eqb}
+use borrow.Author.Tests.{eq-eqb, ne-eqb}
 use mir.Syntax.{w64}
 use mir.Val.{Fits}
 use Rattle.basis.specs.Count.{countWhere}
 use Rattle.basis.proofs.Counts.{count-next, count-most}
 use Rattle.row.specs.declared.Row.{Row}
-use Rattle.row.specs.Names.{LENGTH, place}
 use Rattle.row.specs.Bytes.{row, rowAt, Decoded}
 use Rattle.row.proofs.Places.{room-in}
 use Rattle.table.specs.declared.Uses.{Uses}
 use Rattle.table.specs.Uses.{UNUSED, usesOf}
 use Rattle.table.specs.Refusals.{MOST, rows, isUsed}
-use Rattle.table.specs.Accepted.{Accepted}
-use Rattle.term.specs.Term.{Term, termOf, anyNamed}
+use Rattle.term.specs.Term.{termOf, anyNamed}
 use Rattle.term.specs.WellFormed.{Names}
 use Rattle.term.specs.Result.{touchedBy}
 use Rattle.term.specs.Bytes.{look}
@@ -160,7 +158,7 @@ flag : (b : Bool) → eqb (cond b 1 0) 1 ≡ b
 flag true = refl
 flag false = refl
 
-at-most : (b : Bool) → cond b 1 0 ≤ 1
+pub at-most : (b : Bool) → cond b 1 0 ≤ 1
 at-most true = omega arith
 at-most false = omega arith
 

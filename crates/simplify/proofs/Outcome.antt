@@ -1,23 +1,21 @@
 -- What the loop leaves is what the public definitions say: the fresh result where every row is marked, the edited rows where the touched rows are.
-use Prim.Native.Nat.{ℕ, _+_, _^_, _≤_, _<_}
-use mathlib.Core.Path.{_≡_, refl, ap, sym, _∙_}
+use Prim.Native.Nat.{ℕ, _^_, _<_}
+use mathlib.Core.Path.{_≡_, refl, ap, _∙_}
 use mathlib.Core.Bool.{Bool, true, false, cond}
 use mathlib.Core.List.{List}
-use lib.Dec.{ltb}
 use borrow.Author.Tests.{lt-ltb}
-use Rattle.basis.proofs.Pick.{pick-true, pick-false, pick-alike}
+use Rattle.basis.proofs.Pick.{pick-alike}
 use Rattle.basis.proofs.Counts.{count-same}
-use Rattle.term.specs.Term.{Term, isRead}
+use Rattle.term.specs.Term.{Term}
 use Rattle.term.specs.Relation.{rangeOf}
-use Rattle.term.specs.Result.{simplified, renewed, result, removedRows}
-use Rattle.term.specs.WellFormed.{Names}
+use Rattle.term.specs.Result.{simplified, renewed, removedRows}
 use Rattle.term.specs.Bytes.{look, putRows}
-use Rattle.term.proofs.Names.{NamesBelow, names-widen}
+use Rattle.term.proofs.Names.{names-widen}
 use Rattle.term.proofs.Local.{range-local}
-use Rattle.term.proofs.Renewed.{KeptBelow, renewed-eq, renewed-only-below, renewed-below}
+use Rattle.term.proofs.Renewed.{KeptBelow, renewed-only-below}
 use Rattle.term.proofs.Placed.{put-rows-same}
 use Rattle.simplify.specs.Answer.{LIMIT}
-use Rattle.simplify.specs.Renew.{marked, standing, outcome, CanRenew, Renewed}
+use Rattle.simplify.specs.Renew.{marked, standing, outcome, CanRenew}
 use Rattle.simplify.proofs.Renewing.{out-eq, out-below}
 
 -- removed is counted alike over rows that agree

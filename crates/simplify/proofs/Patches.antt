@@ -1,24 +1,20 @@
 -- The rows that an edit works out anew: what the loop asks, and that what it leaves is what the public promise says.
-use Prim.Native.Nat.{ℕ, _+_, _^_, _≤_, _<_}
+use Prim.Native.Nat.{ℕ, _^_, _≤_, _<_}
 use native.Mathlib.Nat.{le-refl}
-use native.Mathlib.Omega.{arith}
-use mathlib.Core.Path.{_≡_, refl, ap, ap₂, sym, subst, _∙_}
-use mathlib.Core.Bool.{Bool, true, false, not, _||_}
+use mathlib.Core.Path.{_≡_, ap₂, sym, subst, _∙_}
+use mathlib.Core.Bool.{false, not, _||_}
 use mathlib.Core.List.{List}
-use lib.ListN.{length, take, drop, replicate, length-replicate}
-use lib.Seq.{length-take-le}
-use lib.Dec.{eqb, lit<}
+use lib.ListN.{length, replicate, length-replicate}
+use lib.Dec.{lit<}
 use borrow.Author.Tests.{eqb-true, not-false}
 use Rattle.basis.proofs.Pick.{or-left, or-right}
 use Rattle.basis.proofs.Counts.{any-none}
-use Rattle.row.specs.Names.{HEADER, LENGTH, place}
+use Rattle.row.specs.Names.{HEADER, place}
 use Rattle.row.specs.Bytes.{byte, Read}
 use Rattle.row.proofs.Places.{header-below}
-use Rattle.table.specs.declared.Verdict.{Verdict}
-use Rattle.table.specs.Refusals.{width, rows, MOST, accepted, checkTable}
+use Rattle.table.specs.Refusals.{width, rows, checkTable}
 use Rattle.table.specs.Accepted.{Accepted}
 use Rattle.table.proofs.Accepts.{accepted-gives}
-use Rattle.term.specs.Term.{Term}
 use Rattle.term.specs.Result.{touchedBy, removedRows}
 use Rattle.term.specs.WellFormed.{Fits, Names, WellFormed}
 use Rattle.term.specs.Bytes.{look}
@@ -26,13 +22,12 @@ use Rattle.term.proofs.Names.{NamesBelow}
 use Rattle.term.proofs.WellFormed.{formed-below}
 use Rattle.term.proofs.Looked.{cut-look}
 use Rattle.term.proofs.Accepted.{accepted-formed}
-use Rattle.simplify.specs.declared.Answer.{Answer}
-use Rattle.simplify.specs.Answer.{modulus, LIMIT, isAccepted, answer}
+use Rattle.simplify.specs.Answer.{modulus, isAccepted, answer}
 use Rattle.simplify.specs.Renew.{marked, CanRenew, Renewed}
 use Rattle.simplify.specs.Marks.{CanMark, Marked}
 use Rattle.simplify.specs.Edit.{keptPart, otherHeader, otherSorts, keptWrong, editedRows, editedBytes, touchedRows}
 use Rattle.simplify.specs.Patch.{CanPatch, Patched}
-use Rattle.simplify.proofs.Verdicts.{is-accepted, accepted-only}
+use Rattle.simplify.proofs.Verdicts.{accepted-only}
 use Rattle.simplify.proofs.FreshRun.{answer-is}
 use Rattle.simplify.proofs.Outcome.{bytes-are, removed-is}
 

@@ -10,22 +10,19 @@ use mathlib.Core.Logic.{dite}
 use mathlib.Core.List.{List}
 use lib.ListN.{length}
 use lib.Dec.{ltb}
-use lib.Pow.{pow-pos}
 use borrow.Author.Tests.{lt-ltb, ltb-true}
 use Rattle.basis.specs.Count.{countWhere}
 use Rattle.basis.proofs.Pick.{pick-case, test-case, pick-alike}
-use Rattle.basis.proofs.Counts.{count-next, count-most}
-use Rattle.range.specs.declared.Range.{Range}
-use Rattle.range.specs.Store.{kept, keep}
+use Rattle.basis.proofs.Counts.{count-next}
+use Rattle.range.specs.Store.{kept}
 use Rattle.range.proofs.Kept.{keep-same, keep-other}
 use Rattle.row.specs.Names.{LENGTH, place}
 use Rattle.row.specs.Bytes.{putRow}
-use Rattle.row.proofs.Places.{room-below, place-suc}
-use Rattle.table.specs.Refusals.{MOST}
-use Rattle.term.specs.Term.{Term, const, isRead, termOf, rowOf}
+use Rattle.row.proofs.Places.{room-below}
+use Rattle.term.specs.Term.{Term, isRead, termOf, rowOf}
 use Rattle.term.specs.Relation.{rangeBy, rangeOf}
 use Rattle.term.specs.Rule.{rule}
-use Rattle.term.specs.Result.{simplified, renewed, removedRows}
+use Rattle.term.specs.Result.{simplified, removedRows}
 use Rattle.term.specs.WellFormed.{Fits, Names}
 use Rattle.term.specs.Bytes.{look, putIf, putRows}
 use Rattle.term.proofs.Names.{NamesBelow, names-widen}

@@ -1,5 +1,5 @@
 -- The ways out of one turn of the loop.
-use Prim.Native.Nat.{ℕ, zero, suc, _+_, _^_, _≤_, _<_}
+use Prim.Native.Nat.{ℕ, zero, suc, _+_, _≤_, _<_}
 use native.Mathlib.Omega.{arith}
 use mathlib.Core.Path.{_≡_, refl, ap, sym, _∙_}
 use mathlib.Core.Bool.{Bool, true, false, cond, not, _&&_}
@@ -10,16 +10,17 @@ use borrow.Author.Tests.{ne-eqb}
 use mir.Syntax.{w64}
 use mir.Val.{Fits}
 use Rattle.basis.proofs.Counts.{count-most}
-use Rattle.row.specs.Names.{READ, LENGTH, place}
+use Rattle.row.specs.Names.{READ}
 use Rattle.row.specs.Bytes.{row, rowAt}
-use Rattle.term.specs.Term.{Term, termOf, isRead, rowOf}
+use Rattle.term.specs.Term.{termOf, isRead}
 use Rattle.term.specs.Result.{removedRows}
-use Rattle.term.specs.Bytes.{look, putIf}
+use Rattle.term.specs.Bytes.{look}
 use Rattle.term.proofs.Placed.{length-put-if}
 use Rattle.rules.specs.Written.{settled, CanWrite, Written}
 use Rattle.simplify.specs.Answer.{LIMIT}
 use Rattle.simplify.specs.Judge.{Both}
-use Rattle.simplify.specs.Renew.{marked, outcome, CanTurn, Turned, CanRenew, Renewed}
+use Rattle.simplify.specs.Renew.{marked, outcome, CanTurn, Turned, CanRenew}
+use Rattle.simplify.proofs.Marking.{at-most}
 use Rattle.simplify.proofs.Renewing.{Renewing, can-write, turned}
 
 -- a READ is told by its kind
@@ -68,10 +69,6 @@ module _ (T R S marks : List ℕ) (w r : ℕ) (can : CanTurn T R S marks w r) wh
 
     pub turn-done : {c : Bool} {one : ℕ} → c ≡ (isRead (look T r) && not (isRead (look R′ r))) → one ≡ cond c 1 0 → Turned T R R′ S S′ marks w r one
     turn-done e f = record { written = rw mark at done; counts = f ∙ ap (λ (d : Bool). cond d 1 0) e }
-
-at-most : (b : Bool) → cond b 1 0 ≤ 1
-at-most true = omega arith
-at-most false = omega arith
 
 -- ---- the loop
 

@@ -14,7 +14,6 @@ use Rattle.term.specs.Relation.{related, rangeOf}
 use Rattle.term.specs.Result.{removedRows}
 use Rattle.term.specs.Bytes.{look}
 use Rattle.rules.specs.Ready.{Reached}
-use Rattle.simplify.specs.declared.Answer.{Answer}
 use Rattle.simplify.specs.declared.Comparison.{Comparison}
 use Rattle.simplify.specs.Answer.{modulus, isAccepted, answer, answered}
 use Rattle.simplify.specs.Run.{roomReasons, freshRows, freshBytes}

@@ -5,13 +5,13 @@ use mathlib.Core.Bool.{Bool, Bool·beq, cond, not, _||_}
 use mathlib.Core.List.{List, [], _∷_, _++_}
 use lib.ListN.{length, take}
 use lib.Seq.{sets}
-use lib.Dec.{ltb, leb, eqb}
+use lib.Dec.{leb, eqb}
 use Rattle.basis.specs.Reason.{Reason, _when_, first}
 use Rattle.basis.specs.Count.{countWhere, anyBelow}
 use Rattle.row.specs.Names.{HEADER, LENGTH, place}
 use Rattle.row.specs.Bytes.{byte}
 use Rattle.table.specs.declared.Verdict.{Verdict}
-use Rattle.table.specs.Refusals.{rows, headReasons, given, checkRows, checkTable, accepted}
+use Rattle.table.specs.Refusals.{rows, given, checkRows, checkTable, accepted}
 use Rattle.term.specs.Term.{Term, isArray}
 use Rattle.term.specs.Result.{renewed, touchedBy, removedRows}
 use Rattle.term.specs.Bytes.{look, putRows}

@@ -1,5 +1,5 @@
 -- The loop over rows that run and edit share: what it asks, and what it leaves. T are the bytes of the table, R those of the result, n the row count.
-use Prim.Native.Nat.{ℕ, _+_, _^_, _≤_, _<_}
+use Prim.Native.Nat.{ℕ, _^_, _≤_, _<_}
 use mathlib.Core.Path.{_≡_}
 use mathlib.Core.Bool.{Bool, false, cond, not, _&&_}
 use mathlib.Core.List.{List}

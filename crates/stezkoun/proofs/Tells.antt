@@ -5,9 +5,8 @@ use mathlib.Core.List.{List}
 use Rattle.term.specs.declared.Relation.{Relation}
 use Rattle.term.specs.declared.Relation.the-variants.{Unknown, Same, Apart}
 use Rattle.term.specs.Relation.{relationNumber}
-use Rattle.simplify.specs.declared.Answer.{Answer}
 use Rattle.simplify.specs.declared.Comparison.{Comparison}
-use Rattle.simplify.specs.Compare.{compareAnswer, Compared}
+use Rattle.simplify.specs.Compare.{Compared}
 use Rattle.stezkoun.specs.Door.{Told}
 
 pub unknown-number : {r : Relation} → r ≡ Unknown → 0 ≡ relationNumber r

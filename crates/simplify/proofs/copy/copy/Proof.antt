@@ -1,5 +1,4 @@
 use Prim.Native.Nat.{_-_}
-use borrow.Author.Needs.{needs}
 use native.Mathlib.Omega.{arith}
 use Rattle.simplify.proofs.Copied.{Copying, none-yet, one-more, all-done}
 use Rattle.simplify.proofs.copy.copy.Statement.{statement}

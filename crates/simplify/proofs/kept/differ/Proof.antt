@@ -1,4 +1,3 @@
-use borrow.Author.Needs.{needs}
 use Rattle.simplify.proofs.KeptJudged.{differ-here, differ-not-here}
 use Rattle.simplify.proofs.kept.differ.Statement.{statement}
 use Rattle.simplify.proofs.kept.differ.Tie as tie

@@ -1,5 +1,4 @@
 use borrow.Author.Needs.{needs}
-use native.Mathlib.Omega.{arith}
 use Prim.Native.Nat.{_-_}
 use Rattle.row.specs.Names.{HEADER}
 use Rattle.simplify.proofs.KeptJudged.{SameSoFar, head-begun, head-index, head-index-kept, head-differs, head-next, head-same}
