@@ -1,5 +1,5 @@
 -- The rules for arrays, at each way out of the code. Assumes nothing.
-use Prim.Native.Nat.{ℕ, _<_}
+use Prim.Native.Nat.{ℕ}
 use mathlib.Core.Path.{_≡_, refl, sym, _∙_}
 use mathlib.Core.List.{List}
 use Rattle.range.specs.declared.Range.{Range}
@@ -18,8 +18,8 @@ use Rattle.rules.specs.declared.walk.Landing.{Landing}
 use Rattle.rules.specs.declared.walk.Landing.the-variants.{Found, Stopped}
 use Rattle.rules.specs.Value.{valueFrom, valueOf, valueAt, plainFrom}
 use Rattle.rules.specs.Walked.{landing}
-use Rattle.rules.specs.Ready.{Standing, Sought, Unary, Reading}
-use Rattle.rules.proofs.Walks.{LandsBelow, lands-below}
+use Rattle.rules.specs.Ready.{Sought, Unary, Reading}
+use Rattle.rules.proofs.Walks.{lands-below}
 
 -- ---- plain names
 
@@ -72,7 +72,7 @@ module _ (R S : List ℕ) (w limit r m i : ℕ) (l : Landing) (given : Reading R
       record {
         rows = given .rows;
         width = given .width;
-        below = rw (sym e ∙ q) at (lands-below (look R) (kept S) r i (given .rows .names) limit m (given .array));
+        below = rw (sym e ∙ q) at (lands-below R (kept S) r i limit m (given .rows) (given .array));
       }
 
 -- ---- WRITE

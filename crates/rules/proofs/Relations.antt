@@ -1,14 +1,12 @@
 -- What is known of two rows, at each way out of the code. Assumes nothing.
 use Prim.Native.Nat.{ℕ}
-use mathlib.Core.Path.{_≡_, refl, sym, ap, _∙_}
+use mathlib.Core.Path.{_≡_, refl, sym, _∙_}
 use mathlib.Core.Bool.{Bool, true, false}
 use borrow.Author.Tests.{eq-eqb, ne-eqb}
-use lib.Dec.{eqb}
 use Rattle.range.specs.declared.Range.{Range}
 use Rattle.range.specs.Range.{disjoint}
 use Rattle.term.specs.Term.{Term}
 use Rattle.term.specs.Base.{sameBase, base, offset}
-use Rattle.term.specs.declared.Relation.{Relation}
 use Rattle.term.specs.declared.Relation.the-variants.{Same, Apart, Unknown}
 use Rattle.term.specs.Relation.{related}
 use Rattle.rules.specs.declared.value.Value.{Value}

@@ -1,12 +1,12 @@
 -- The rewriting step, by the kind of the row, and what its rules ask. Assumes nothing.
 use Prim.Native.Nat.{ℕ}
-use mathlib.Core.Path.{_≡_, refl}
+use mathlib.Core.Path.{_≡_}
 use mathlib.Core.List.{List}
 use Rattle.range.specs.declared.Range.{Range}
 use Rattle.row.specs.declared.Row.{Row}
 use Rattle.row.specs.Bytes.{row}
 use Rattle.row.specs.Names.{CONST, VAR, SHIFT, SUM, DIFF, NEG, READ, FRESH, WRITE}
-use Rattle.term.specs.Term.{Term, const, var, shift, sum, diff, neg, read, fresh, write, termOf, rowOf}
+use Rattle.term.specs.Term.{Term, shift, sum, diff, neg, read, write, termOf, rowOf}
 use Rattle.term.specs.Rule.{shiftRule, sumRule, diffRule, negRule, readRule, writeRule, rule}
 use Rattle.rules.specs.Ready.{NamesBelow, Unary, Binary, Reading, Writing, Asked}
 use Rattle.rules.proofs.Terms.{

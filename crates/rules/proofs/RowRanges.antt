@@ -1,7 +1,6 @@
 -- The range of a row, by its kind, and what its parts ask. Assumes nothing.
-use Prim.Native.Nat.{ℕ, _^_, _≤_, _<_}
-use lib.Pow.{pow-pos}
-use mathlib.Core.Path.{_≡_, refl}
+use Prim.Native.Nat.{ℕ, _^_, _<_}
+use mathlib.Core.Path.{_≡_}
 use mathlib.Core.List.{List}
 use Rattle.range.specs.declared.Range.{Range}
 use Rattle.range.specs.Range.{span, point, full, negation, Proper}

@@ -1,10 +1,9 @@
 -- An array row is a store or it is none: what the code does at it. Assumes nothing.
-use Prim.Native.Nat.{ℕ, _<_}
+use Prim.Native.Nat.{ℕ}
 use native.Mathlib.Omega.{arith}
 use mathlib.Core.Path.{_≡_, refl, sym, ap, _∙_}
 use mathlib.Core.List.{List}
 use Rattle.range.specs.declared.Range.{Range}
-use Rattle.range.specs.Store.{kept}
 use Rattle.row.specs.declared.Row.{Row}
 use Rattle.row.specs.Names.{WRITE}
 use Rattle.row.specs.Bytes.{Decoded}
@@ -15,10 +14,9 @@ use Rattle.term.specs.declared.Relation.the-variants.{Same, Apart, Unknown}
 use Rattle.term.specs.Relation.{related}
 use Rattle.term.specs.Rule.{skipBy, skipAt}
 use Rattle.rules.specs.declared.relation.Index.{Index}
-use Rattle.rules.specs.declared.walk.Step.{Step}
 use Rattle.rules.specs.declared.walk.Step.the-variants.{Hit, Next, Stop}
 use Rattle.rules.specs.Walked.{stepBy, stepAt}
-use Rattle.rules.specs.Ready.{NamesBelow, Standing, Walking, Comparing}
+use Rattle.rules.specs.Ready.{NamesBelow, Walking, Comparing}
 use Rattle.rules.proofs.Terms.{term-write, term-case}
 use Rattle.rules.proofs.Reach.{row-reached}
 

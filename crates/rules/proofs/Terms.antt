@@ -1,5 +1,5 @@
 -- The term of a row, by its kind. Assumes nothing.
-use Prim.Native.Nat.{ℕ, zero, suc, _≤_}
+use Prim.Native.Nat.{ℕ, zero, suc, _≤_, _<_}
 use mathlib.Core.Path.{_≡_, refl}
 use native.Mathlib.Omega.{arith}
 use mathlib.Core.List.{List, [], _∷_}
@@ -71,9 +71,12 @@ module _ (x : Row) where
   unfolding termOf
   term-zero e = rw e
 
-  pub term-past : NoKind (x .kind) → termOf x ≡ const 0
+  pub term-beyond : WRITE < x .kind → termOf x ≡ const 0
   unfolding termOf terms
-  term-past h = List·getD-eq-default (terms x) (const 0) (past-nine (x .kind) h)
+  term-beyond h = List·getD-eq-default (terms x) (const 0) h
+
+  pub term-past : NoKind (x .kind) → termOf x ≡ const 0
+  term-past h = term-beyond (past-nine (x .kind) h)
 
 -- ---- what holds of each of a row's terms holds of its term
 

@@ -1,13 +1,13 @@
 -- One turn of a run: the row that is settled, and what stands afterwards. Assumes nothing.
-use Prim.Native.Nat.{ℕ, suc, _+_, _*_, _^_, _≤_, _<_}
+use Prim.Native.Nat.{ℕ, suc, _^_, _≤_, _<_}
 use native.Mathlib.Nat.{lt-of-lt-of-le}
 use native.Mathlib.Omega.{arith}
 use native.Mathlib.Decide.{decLt}
-use mathlib.Core.Path.{_≡_, refl, sym, ap, subst, _∙_}
+use mathlib.Core.Path.{_≡_, sym, ap, _∙_}
 use mathlib.Core.Logic.{_≢_, dite}
 use mathlib.Core.Bool.{Bool, true, false}
 use mathlib.Core.List.{List}
-use lib.Dec.{lit<, lit≤}
+use lib.Dec.{lit<}
 use lib.ListN.{length}
 use lib.Pow.{pow-pos, pow-mono}
 use Rattle.range.specs.declared.Range.{Range}
@@ -15,23 +15,23 @@ use Rattle.range.specs.Range.{Proper}
 use Rattle.range.specs.Store.{kept, keep}
 use Rattle.range.proofs.Kept.{keep-length, keep-same, keep-other}
 use Rattle.row.specs.declared.Row.{Row}
-use Rattle.row.specs.Names.{LENGTH, place}
+use Rattle.row.specs.Names.{place}
 use Rattle.row.specs.Bytes.{rowAt, putRow, Small, Decoded}
 use Rattle.row.proofs.Rows.{put-read}
 use Rattle.term.specs.Term.{Term, const, var, shift, sum, diff, neg, read, fresh, write, termOf, rowOf}
-use Rattle.term.specs.WellFormed.{Fits, Names}
+use Rattle.term.specs.WellFormed.{Fits}
 use Rattle.term.specs.Bytes.{look, putIf}
 use Rattle.term.specs.Relation.{rangeBy}
 use Rattle.term.specs.Rule.{rule}
 use Rattle.term.proofs.Rows.{term-row}
-use Rattle.term.proofs.Names.{names-widen}
 use Rattle.term.proofs.Inside.{rule-in}
 use Rattle.term.proofs.WellFormed.{Unnamed, rule-stands}
 use Rattle.term.proofs.Looked.{small-term}
 use Rattle.term.proofs.Placed.{length-put-if, put-if-other}
-use Rattle.rules.specs.Ready.{NamesBelow, Standing, Ranged, Asked, Ranging}
+use Rattle.rules.specs.Ready.{NamesBelow, Standing, Asked}
 use Rattle.rules.specs.Written.{source, CanWrite, settled, becomes, Settled, Written}
 use Rattle.rules.proofs.Terms.{term-case}
+use Rattle.rules.proofs.Reach.{rows-closed}
 use Rattle.rules.proofs.RowRanges.{range-proper}
 
 -- ---- the row that the rules make fits its fields
@@ -52,15 +52,12 @@ row-name-small : (x : Row) → Small x → NameSmall (termOf x)
 row-name-small x small = term-case NameSmall x tt tt (small .a) tt tt tt tt tt tt (λ e. tt)
 
 module _ (R : List ℕ) (r : ℕ) (rows : Standing R r) where
-  closed : (array : Bool) (x : ℕ) → x < r → NamesBelow r (look R x)
-  closed array x l = names-widen (look R x) (λ (s : Bool) (y : ℕ) (h : y < x). omega arith) (rows .names x l)
-
   module _ (M limit : ℕ) (g : ℕ → Range) (pos : 0 < M) (words : M ≤ 2 ^ 64) where
     abbrev made : Term → Term
     made t = rule M limit (look R) g t
 
     made-names : (t : Term) → NamesBelow r t → NamesBelow r (made t)
-    made-names t n = rule-in (λ array y. y < r) (look R) closed M limit g t n
+    made-names t n = rule-in (λ array y. y < r) (look R) (rows-closed R r rows) M limit g t n
 
     made-fits : (t : Term) → Fits M t → Fits M (made t)
     made-fits t f = rule-stands M pos limit (look R) g t f .0
@@ -155,16 +152,6 @@ module _ (T R S : List ℕ) (w limit r : ℕ) (touched : Bool) (given : CanWrite
 
 module _ (T R R′ S : List ℕ) (w limit r : ℕ) (touched : Bool) (x : Row)
     (given : CanWrite T R S w r touched) (done : Settled T R R′ S w limit r touched x) where
-  pub settled-ranging : Ranging S w r (termOf x)
-  settled-ranging =
-      record {
-        few = given .rows .few;
-        width = given .width;
-        ranges = given .ranges;
-        fits = done .fits;
-        names = done .names;
-      }
-
   settled-length : length R′ ≡ length R
   unfolding settled
   settled-length =

@@ -1,5 +1,5 @@
 -- The walk, step by step: what is left to walk gives the whole walk's landing. Assumes nothing.
-use Prim.Native.Nat.{ℕ, zero, suc, _+_, _-_, _≤_, _<_}
+use Prim.Native.Nat.{ℕ, suc, _+_, _-_, _≤_, _<_}
 use native.Mathlib.Omega.{arith}
 use mathlib.Core.Path.{_≡_, refl, sym, ap, _∙_}
 use mathlib.Core.List.{List}
@@ -10,14 +10,16 @@ use Rattle.term.specs.Bytes.{look}
 use Rattle.term.specs.declared.Relation.{Relation}
 use Rattle.term.specs.declared.Relation.the-variants.{Same, Apart, Unknown}
 use Rattle.term.specs.Relation.{related}
-use Rattle.term.specs.Walk.{Walk, step, walkAt, walk}
+use Rattle.term.specs.Walk.{Walk, found, passed, undecided, ended, step, walkAt, walk}
+use Rattle.term.proofs.Inside.{WalkIn, walk-in}
 use Rattle.rules.specs.declared.relation.Index.{Index}
 use Rattle.rules.specs.declared.walk.Step.{Step}
 use Rattle.rules.specs.declared.walk.Step.the-variants.{Hit, Next, Stop}
 use Rattle.rules.specs.declared.walk.Landing.{Landing}
 use Rattle.rules.specs.declared.walk.Landing.the-variants.{Found, Stopped}
 use Rattle.rules.specs.Walked.{stepBy, stepAt, landing}
-use Rattle.rules.specs.Ready.{NamesBelow, Standing, Sought, Walking}
+use Rattle.rules.specs.Ready.{NamesBelow, Standing, Walking}
+use Rattle.rules.proofs.Reach.{rows-closed}
 
 -- ---- over lookups
 
@@ -55,7 +57,7 @@ module _ (f : ℕ → Term) (g : ℕ → Range) (i : ℕ) where
   unfolding walk landing
   land-spent m = refl
 
--- ---- a step leads to rows below, and so a walk ends at one
+-- ---- a step leads to rows below, and a walk ends at one
 
 abbrev StepBelow : ℕ → Step → Type 0
 StepBelow m (Hit c) = c < m
@@ -84,20 +86,17 @@ abbrev pub LandsBelow : ℕ → Landing → Type 0
 LandsBelow r (Found c) = c < r
 LandsBelow r (Stopped n) = n < r
 
-land-below : (r m : ℕ) (onward : ℕ → Landing) → m < r → ((a : ℕ) → a < r → LandsBelow r (onward a))
-    → (s : Step) → StepBelow m s → LandsBelow r (landBy m onward s)
-unfolding landBy
-land-below r m onward l h (Hit c) b = omega arith
-land-below r m onward l h (Next a) b = h a (omega arith)
-land-below r m onward l h Stop b = l
+lands-in : (r : ℕ) (w : Walk) → WalkIn (λ array y. y < r) w → LandsBelow r (landing w)
+unfolding landing
+lands-in r (found m c) h = h
+lands-in r (passed m onward) h = lands-in r onward h
+lands-in r (undecided m) h = h
+lands-in r (ended m) h = h
 
-pub lands-below : (f : ℕ → Term) (g : ℕ → Range) (r i : ℕ) → ((x : ℕ) → x < r → NamesBelow x (f x))
-    → (left m : ℕ) → m < r → LandsBelow r (landing (walk f g i left m))
-lands-below f g r i names zero m l = rw (land-spent f g i m) l
-lands-below f g r i names (suc left) m l =
-    rw (land-step f g i left m)
-    (land-below r m (λ a. landing (walk f g i left a)) l (lands-below f g r i names left)
-    (stepAt f g i (f m)) (step-below f g i m (f m) (names m l)))
+pub lands-below : (R : List ℕ) (g : ℕ → Range) (r i limit m : ℕ) → Standing R r → m < r
+    → LandsBelow r (landing (walk (look R) g i limit m))
+lands-below R g r i limit m rows l =
+    lands-in r (walk (look R) g i limit m) (walk-in (λ array y. y < r) (look R) (rows-closed R r rows) g i limit m l)
 
 -- ---- the loop
 

@@ -9,7 +9,7 @@ use Rattle.word.specs.Word.{plus, minus}
 use Rattle.row.specs.declared.Row.{Row}
 use Rattle.row.specs.Bytes.{row}
 use Rattle.row.specs.Names.{CONST, SHIFT, SUM, DIFF, NEG}
-use Rattle.term.specs.Term.{Term, const, sum, diff, neg, rowOf}
+use Rattle.term.specs.Term.{Term, sum, diff, rowOf}
 use Rattle.term.specs.Base.{
   Base,
   nothing,

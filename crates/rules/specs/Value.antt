@@ -1,10 +1,10 @@
 -- Base and offset by numbers, as the code has them: a `Value`.
 use Prim.Native.Nat.{ℕ}
-use mathlib.Core.Bool.{Bool, cond, _&&_}
+use mathlib.Core.Bool.{Bool, cond, _&&_, _||_}
 use lib.Dec.{eqb}
 use Rattle.word.specs.Word.{plus}
 use Rattle.row.specs.declared.Row.{Row}
-use Rattle.row.specs.Names.{SHIFT}
+use Rattle.row.specs.Names.{SHIFT, SUM, DIFF}
 use Rattle.row.specs.Bytes.{row}
 use Rattle.term.specs.Term.{Term}
 use Rattle.term.specs.Base.{Base, baseOf, offsetOf, shapeOf, leftOf, rightOf}
@@ -24,6 +24,10 @@ valueOf r t = valueFrom (baseOf r t) (offsetOf t)
 -- the value of row x of the result rows f
 unfoldable pub valueAt : (ℕ → Term) → ℕ → Value
 valueAt f x = valueOf x (f x)
+
+-- the second row that the base of a SHIFT, SUM, DIFF or NEG row names, 0 where it names one
+unfoldable pub secondOf : Row → ℕ
+secondOf x = cond (eqb (x .kind) SUM || eqb (x .kind) DIFF) (x .b) 0
 
 -- the bases agree
 unfoldable pub agree : Value → Value → Bool

@@ -1,11 +1,11 @@
 // Base and offset of a result row, as one struct.
 ghost use mathlib.Core.Path.{_≡_};
-ghost use Prim.Native.Nat.{_+_, _≤_};
+ghost use Prim.Native.Nat.{_+_, _≤_, _<_};
 ghost use lib.ListN.{length};
-ghost use Rattle.row.specs.Names.{place, LENGTH};
+ghost use Rattle.row.specs.Names.{place, LENGTH, SHIFT, NEG};
 ghost use Rattle.term.specs.Term.{termOf};
 ghost use Rattle.term.specs.Bytes.{look};
-ghost use Rattle.rules.specs.Value.{value, valueOf, valueAt, agree, openedFrom, plainFrom};
+ghost use Rattle.rules.specs.Value.{value, valueOf, valueAt, secondOf, agree, openedFrom, plainFrom};
 use row::Row;
 
 // A base is told by the kind of the row that it is written as, CONST, SHIFT, SUM, DIFF or NEG, and by the rows that it names.
@@ -29,35 +29,64 @@ impl Value {
     }
 }
 
-// The value of result row r, which is x.
+// The value of result row r, which is x. Two comparisons tell the kinds that have a base of their own shape, SHIFT to NEG: a match on each kind
+// would be a jump through a table at every step of a walk.
 fn value_of(x: Row, r: usize) -> Value
     ensures { λ v. ⌜ v ≡ valueOf r (termOf x) ⌝ }
 {
-    let kind = x.kind;
-    match kind {
-        Row::CONST => Value::make(Row::CONST, 0, 0, x.k),
-        Row::VAR => Value::make(Row::SHIFT, r, 0, 0),
-        Row::SHIFT => Value::make(Row::SHIFT, x.a, 0, x.k),
-        Row::SUM => Value::make(Row::SUM, x.a, x.b, x.k),
-        Row::DIFF => Value::make(Row::DIFF, x.a, x.b, x.k),
-        Row::NEG => Value::make(Row::NEG, x.a, 0, x.k),
-        Row::READ => Value::make(Row::SHIFT, r, 0, 0),
-        Row::FRESH => Value::make(Row::SHIFT, r, 0, 0),
-        Row::WRITE => Value::make(Row::SHIFT, r, 0, 0),
-        0 | 10..=255 => Value::make(Row::CONST, 0, 0, 0),
+    if x.kind < Row::SHIFT {
+        return value_below(x, r);
     }
+    if x.kind > Row::NEG {
+        return value_above(x, r);
+    }
+    Value::make(x.kind, x.a, second_row(x), x.k)
 }
 
-// The value of result row r. Most indexes of a long walk are SHIFT rows, so that kind is tested first.
+// The value of result row r, which is a CONST or a VAR, or of no kind.
+fn value_below(x: Row, r: usize) -> Value
+    requires { ⌜ x .kind < SHIFT ⌝ }
+    ensures { λ v. ⌜ v ≡ valueOf r (termOf x) ⌝ }
+{
+    if x.kind == Row::VAR {
+        return Value::make(Row::SHIFT, r, 0, 0);
+    }
+    if x.kind == Row::CONST {
+        return Value::make(Row::CONST, 0, 0, x.k);
+    }
+    Value::make(Row::CONST, 0, 0, 0)
+}
+
+// The value of result row r, which is a READ or an array, or of no kind.
+fn value_above(x: Row, r: usize) -> Value
+    requires { ⌜ NEG < x .kind ⌝ }
+    ensures { λ v. ⌜ v ≡ valueOf r (termOf x) ⌝ }
+{
+    if x.kind > Row::WRITE {
+        return Value::make(Row::CONST, 0, 0, 0);
+    }
+    Value::make(Row::SHIFT, r, 0, 0)
+}
+
+// The second row that a base names: SUM and DIFF have one.
+fn second_row(x: Row) -> usize
+    ensures { λ b. ⌜ b ≡ secondOf x ⌝ }
+{
+    if x.kind == Row::SUM {
+        return x.b;
+    }
+    if x.kind == Row::DIFF {
+        return x.b;
+    }
+    0
+}
+
+// The value of result row r.
 pub fn value_at(result: &[u8], r: usize) -> Value
     requires { ⌜ place r + LENGTH ≤ length (now result) ⌝ }
     ensures { λ v. ⌜ v ≡ valueAt (look (now (result .entry))) r ⌝ }
 {
-    let x = Row::decode(result, r);
-    if x.kind == Row::SHIFT {
-        return Value::make(Row::SHIFT, x.a, 0, x.k);
-    }
-    value_of(x, r)
+    value_of(Row::decode(result, r), r)
 }
 
 // Whether the bases agree.

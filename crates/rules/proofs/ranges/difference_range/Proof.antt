@@ -1,5 +1,5 @@
 use borrow.Author.Needs.{needs}
-use Rattle.rules.proofs.RowRanges.{point-known, kept-known, sum-known, negation-known}
+use Rattle.rules.proofs.RowRanges.{kept-known, sum-known, negation-known}
 use Rattle.rules.proofs.ranges.difference_range.Statement.{statement}
 use Rattle.rules.proofs.ranges.difference_range.Tie as tie
 
@@ -10,13 +10,13 @@ load-requires-2 : tie.Need-load-requires-2
 load-requires-2 c κs = search needs
 
 negation-requires : tie.Need-negation-requires
-negation-requires c κs = search (needs, point-known, kept-known, sum-known, negation-known)
+negation-requires c κs = search (needs, kept-known)
 
 sum-requires : tie.Need-sum-requires
-sum-requires c κs = search (needs, point-known, kept-known, sum-known, negation-known)
+sum-requires c κs = search (needs, kept-known, negation-known)
 
 moved-requires : tie.Need-moved-requires
-moved-requires c κs = search (needs, point-known, kept-known, sum-known, negation-known)
+moved-requires c κs = search (needs, kept-known, negation-known, sum-known)
 
 returns : tie.Need-returns
 returns c = cc

@@ -1,5 +1,5 @@
 use borrow.Author.Needs.{needs}
-use Rattle.rules.proofs.RowRanges.{point-known, kept-known, sum-known, negation-known}
+use Rattle.rules.proofs.RowRanges.{point-known}
 use Rattle.rules.proofs.ranges.moved.Statement.{statement}
 use Rattle.rules.proofs.ranges.moved.Tie as tie
 
@@ -7,7 +7,7 @@ of-word-requires : tie.Need-of-word-requires
 of-word-requires c κs = search needs
 
 sum-requires : tie.Need-sum-requires
-sum-requires c κs = search (needs, point-known, kept-known, sum-known, negation-known)
+sum-requires c κs = search (needs, point-known)
 
 returns : tie.Need-returns
 returns c = cc

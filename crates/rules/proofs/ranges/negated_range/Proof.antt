@@ -1,5 +1,5 @@
 use borrow.Author.Needs.{needs}
-use Rattle.rules.proofs.RowRanges.{point-known, kept-known, sum-known, negation-known}
+use Rattle.rules.proofs.RowRanges.{point-known, kept-known, negation-known}
 use Rattle.rules.proofs.ranges.negated_range.Statement.{statement}
 use Rattle.rules.proofs.ranges.negated_range.Tie as tie
 
@@ -7,13 +7,13 @@ load-requires : tie.Need-load-requires
 load-requires c κs = search needs
 
 negation-requires : tie.Need-negation-requires
-negation-requires c κs = search (needs, point-known, kept-known, sum-known, negation-known)
+negation-requires c κs = search (needs, kept-known)
 
 of-word-requires : tie.Need-of-word-requires
 of-word-requires c κs = search needs
 
 sum-requires : tie.Need-sum-requires
-sum-requires c κs = search (needs, point-known, kept-known, sum-known, negation-known)
+sum-requires c κs = search (needs, point-known, kept-known, negation-known)
 
 returns : tie.Need-returns
 returns c = cc

@@ -1,5 +1,5 @@
 use borrow.Author.Needs.{needs}
-use Rattle.rules.proofs.RowRanges.{point-known, kept-known, sum-known, negation-known}
+use Rattle.rules.proofs.RowRanges.{kept-known}
 use Rattle.rules.proofs.ranges.shifted_range.Statement.{statement}
 use Rattle.rules.proofs.ranges.shifted_range.Tie as tie
 
@@ -7,7 +7,7 @@ load-requires : tie.Need-load-requires
 load-requires c κs = search needs
 
 moved-requires : tie.Need-moved-requires
-moved-requires c κs = search (needs, point-known, kept-known, sum-known, negation-known)
+moved-requires c κs = search (needs, kept-known)
 
 returns : tie.Need-returns
 returns c = cc
