@@ -199,6 +199,15 @@ fn row_cases(t: &mut [u8; ROOM]) {
     }
 }
 
+// The largest k at every width: a word at 64 bits alone.
+fn every_width(t: &mut [u8; ROOM]) {
+    let mut w: u64 = 1;
+    while w <= 64 {
+        row_case(t, [w, 0x52, 0x4F, 1, 0, 0, 0, 0, 0xffff_ffff_ffff_ffff, 0]);
+        w += 1;
+    }
+}
+
 // Which row is given: the first faulty one.
 fn faulty_rows(t: &mut [u8; ROOM]) {
     fill(t);
@@ -245,6 +254,7 @@ fn main() {
     fill(&mut t);
     head_cases(&mut t);
     row_cases(&mut t);
+    every_width(&mut t);
     faulty_rows(&mut t);
     p1_and_p3(&mut t);
 }
