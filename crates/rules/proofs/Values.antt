@@ -84,6 +84,10 @@ module _ (x : Row) (r : ℕ) where
     unfolding made
     value-shaped b l h e q = q ∙ rw e (shaped (x .kind) (omega arith) (omega arith) refl l h)
 
+    pub value-shift : x .kind ≡ SHIFT → v ≡ value SHIFT (x .a) 0 (x .k) → v ≡ valueOf r (termOf x)
+    unfolding valueOf valueFrom baseOf offsetOf shapeOf leftOf rightOf
+    value-shift e q = rw (term-shift x e) q
+
     pub value-own : NEG < x .kind → x .kind ≤ WRITE → v ≡ value SHIFT r 0 0 → v ≡ valueOf r (termOf x)
     unfolding own
     value-own l h q = q ∙ owned (x .kind) (omega arith) h refl l

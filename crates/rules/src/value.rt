@@ -29,11 +29,15 @@ impl Value {
     }
 }
 
-// The value of result row r, which is x. Two comparisons tell the kinds that have a base of their own shape, SHIFT to NEG: a match on each kind
+// The value of result row r, which is x. Nearly every index of a walk is a SHIFT, so that goes first. Two comparisons tell the other kinds that have a base of
+// their own shape, SUM to NEG: a match on each kind
 // would be a jump through a table at every step of a walk.
 fn value_of(x: Row, r: usize) -> Value
     ensures { λ v. ⌜ v ≡ valueOf r (termOf x) ⌝ }
 {
+    if x.kind == Row::SHIFT {
+        return Value::make(Row::SHIFT, x.a, 0, x.k);
+    }
     if x.kind < Row::SHIFT {
         return value_below(x, r);
     }

@@ -55,7 +55,7 @@ pub fn edit(table: &mut [u8], kept: &mut [u8], row: u64, replacement: &[u8]) -> 
         return refused(number, 0);
     }
     let r = row as usize;
-    let mut old = [0u8; 26];
+    let mut old = [0u8; Row::LENGTH];
     take_row(table, r, &mut old);
     put_row(table, r, replacement);
     let verdict = judge::edited(table, kept);
