@@ -30,8 +30,7 @@ impl Value {
 }
 
 // The value of result row r, which is x. Nearly every index of a walk is a SHIFT, so that goes first. Two comparisons tell the other kinds that have a base of
-// their own shape, SUM to NEG: a match on each kind
-// would be a jump through a table at every step of a walk.
+// their own shape, SUM to NEG: a match on each kind would be a jump through a table at every step of a walk.
 fn value_of(x: Row, r: usize) -> Value
     ensures { λ v. ⌜ v ≡ valueOf r (termOf x) ⌝ }
 {
