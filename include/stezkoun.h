@@ -1,6 +1,6 @@
 /*
  * Stezkoun: checks a table of word and array terms, writes its simplified table, replaces one
- * row of a table together with its kept result, and compares two rows.
+ * row of a table together with its kept result, compares two rows, and lists why a read moved.
  *
  * A table is 6 + 26 n bytes: a header (46 54, width 1..64, 0, row count n 0..1024 in two bytes)
  * and n rows of 26 bytes (52 4F, kind, 0, references a b c in two bytes each, values k h in
@@ -27,8 +27,8 @@ extern "C" {
 
 /*
  * Refusals, in the order in which they are looked for: 1 to 8; then the rows ascending, each
- * 9 to 15, the first faulty row ending the search; then 16. Of 9 to 15 the answer's row is the
- * faulty row; of all others it is 0.
+ * 9 to 15, the first faulty row ending the search; then 16, 17, 22. Of 9 to 15 the answer's row
+ * is the faulty row and of 17 the row that was named; of all others it is 0.
  */
 enum stezkoun_refusal {
     STEZKOUN_ACCEPTED = 0,
@@ -48,9 +48,11 @@ enum stezkoun_refusal {
     STEZKOUN_SORT = 14,              /* a word named where an array belongs, or the reverse; also
                                         an array row named to stezkoun_compare */
     STEZKOUN_BOUNDS = 15,            /* VAR with k above h */
-    STEZKOUN_KEPT_RESULT = 16        /* kept result refused as a table, or with another header, or
+    STEZKOUN_KEPT_RESULT = 16,       /* kept result refused as a table, or with another header, or
                                         with an array where the edited table has a word, or the
                                         reverse */
+    STEZKOUN_NOT_A_READ = 17,        /* a row named to stezkoun_why is not a READ */
+    STEZKOUN_LIST_TOO_SHORT = 22     /* space for the list shorter than the list */
 };
 
 enum stezkoun_relation {
@@ -61,6 +63,7 @@ enum stezkoun_relation {
 
 struct stezkoun_answer { uint64_t refusal, row, removed, touched; };
 struct stezkoun_comparison { struct stezkoun_answer answer; uint64_t relation; };
+struct stezkoun_listing { struct stezkoun_answer answer; uint64_t length; };
 
 /*
  * Simplifies the table into the first table_len bytes of result; later bytes stay. Touched is n.
@@ -89,6 +92,18 @@ struct stezkoun_answer stezkoun_edit(uint8_t *table, size_t table_len,
 struct stezkoun_comparison stezkoun_compare(const uint8_t *table, size_t table_len,
                                             uint8_t *result, size_t result_len,
                                             uint64_t first, uint64_t second);
+
+/*
+ * Simplifies as stezkoun_run does, and lists the walk of one READ row of the table: each store
+ * that was compared, nearest first, with the reason, then where the read ended. The lines are
+ * text without a zero byte at the end (docs/WHY.md), at most 256 bytes for each store compared
+ * and 256 more; they take the first length bytes of list, and later bytes stay. Gives refusals
+ * 1 to 7 and 9 to 15, then 17 and 22. On 22 length says how much to lend; on all others it is 0.
+ */
+struct stezkoun_listing stezkoun_why(const uint8_t *table, size_t table_len,
+                                     uint8_t *result, size_t result_len,
+                                     uint64_t row,
+                                     uint8_t *list, size_t list_len);
 
 #ifdef __cplusplus
 }

@@ -3,6 +3,7 @@
 
 use crate::families::Subject;
 use second::bytes::row_bytes;
+use second::text::LONGEST_LIST;
 use std::ffi::c_void;
 use stezkoun::numbers;
 
@@ -31,7 +32,8 @@ fn depth(stack: &mut [u8], call: &mut dyn FnMut()) -> usize {
 pub fn print(subjects: &[Subject]) {
     let mut stack = vec![0; STACK];
     let nothing = depth(&mut stack, &mut || {});
-    let mut deepest = [0; 3];
+    let mut list = vec![0; LONGEST_LIST];
+    let mut deepest = [0; 4];
     for subject in subjects {
         let table = &subject.table;
         let mut result = subject.result.clone();
@@ -50,13 +52,16 @@ pub fn print(subjects: &[Subject]) {
         let compare = depth(&mut stack, &mut || {
             numbers::compare(table, &mut result, first, second);
         });
-        for (deepest, depth) in deepest.iter_mut().zip([run, edit, compare]) {
+        let why = depth(&mut stack, &mut || {
+            numbers::why(table, &mut result, subject.listed(), &mut list);
+        });
+        for (deepest, depth) in deepest.iter_mut().zip([run, edit, compare, why]) {
             *deepest = depth.max(*deepest);
         }
     }
     println!("deepest stack of the library, in bytes, on a painted stack of its own");
     println!("  ({nothing} bytes of each figure are what an empty call takes)");
-    for (name, depth) in ["run", "edit", "compare"].iter().zip(deepest) {
+    for (name, depth) in ["run", "edit", "compare", "why"].iter().zip(deepest) {
         println!("  {name:<8} {depth:>8}");
     }
 }

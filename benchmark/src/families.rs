@@ -104,4 +104,10 @@ impl Subject {
         let second = words.next().expect("every family has words");
         [words.next().unwrap_or(second) as u64, second as u64]
     }
+
+    /// The last READ row.
+    pub fn listed(&self) -> u64 {
+        let read = (0..self.rows.len()).rev().find(|row| self.rows[*row].is_read());
+        read.expect("every family has reads") as u64
+    }
 }

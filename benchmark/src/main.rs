@@ -7,6 +7,7 @@ mod timing;
 
 use families::{Edit, Family, Subject, SIZES};
 use second::bytes::row_bytes;
+use second::text::LONGEST_LIST;
 use std::hint::black_box;
 use stezkoun::numbers;
 
@@ -62,6 +63,20 @@ fn comparisons(subject: &Subject) -> Vec<Call<'_>> {
     ]
 }
 
+fn lists(subject: &Subject) -> Vec<Call<'_>> {
+    let table = &subject.table;
+    let [mut one, mut other] = [(); 2].map(|_| (vec![0; table.len()], vec![0; LONGEST_LIST]));
+    let row = subject.listed();
+    vec![
+        Box::new(move || {
+            black_box(numbers::why(table, &mut one.0, row, &mut one.1));
+        }),
+        Box::new(move || {
+            black_box(second::why(table, &mut other.0, row, &mut other.1));
+        }),
+    ]
+}
+
 /// What is measured must be right.
 fn check(subject: &Subject) {
     let mut results = [(); 2].map(|_| vec![0; subject.table.len()]);
@@ -78,6 +93,11 @@ fn check(subject: &Subject) {
         }
         assert!(kept == subject.result, "{} and back again", edit.name);
     }
+    let (row, mut list) = (subject.listed(), vec![0; LONGEST_LIST]);
+    let listing = numbers::why(&subject.table, &mut results[0], row, &mut list);
+    let expected = second::text::listed(&subject.table, row);
+    assert_eq!(listing.length, expected.len() as u64, "the length of a list");
+    assert!(list.starts_with(expected.as_bytes()), "a wrong list");
 }
 
 /// One line; `before` is the library's figure at a quarter of the rows.
@@ -120,8 +140,9 @@ fn main() {
                 lines.push((edit.name, size, timing::measured(&mut edits(&subject, &edit))));
             }
             lines.push(("compare", size, timing::measured(&mut comparisons(&subject))));
+            lines.push(("why", size, timing::measured(&mut lists(&subject))));
         }
-        for name in ["run", "edit first", "edit middle", "edit last", "compare"] {
+        for name in ["run", "edit first", "edit middle", "edit last", "compare", "why"] {
             let mut before = None;
             for (_, rows, figures) in lines.iter().filter(|line| line.0 == name) {
                 line(name, *rows, figures, before);

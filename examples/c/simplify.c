@@ -1,5 +1,6 @@
 /*
- * Simplifies table P1, widens its variable and sees what becomes of the result.
+ * Simplifies table P1, asks why its last read moved, widens its variable and sees what becomes
+ * of the result.
  *
  *   cc -I include examples/c/simplify.c libstezkoun.a -o simplify && ./simplify
  */
@@ -61,7 +62,7 @@ static int print_answer(const char *call, struct stezkoun_answer answer) {
 }
 
 int main(void) {
-    uint8_t table[HEADER + ROW * ROWS], result[sizeof table], wide[ROW];
+    uint8_t table[HEADER + ROW * ROWS], result[sizeof table], wide[ROW], list[512];
     static const char *relations[] = { "not known", "same", "apart" };
 
     put_p1(table);
@@ -71,6 +72,11 @@ int main(void) {
     struct stezkoun_comparison compared =
         stezkoun_compare(table, sizeof table, result, sizeof result, 2, 6);
     printf("rows 2 and 6: %s\n", relations[compared.relation]);
+
+    struct stezkoun_listing listed =
+        stezkoun_why(table, sizeof table, result, sizeof result, 8, list, sizeof list);
+    if (print_answer("why", listed.answer)) return 1;
+    fwrite(list, 1, listed.length, stdout);
 
     /* With the pointer anywhere from 0 the last read may no longer pass the store. */
     put_row(wide, VAR, 0, 0, 0, 0, 250);

@@ -1,14 +1,18 @@
 -- Demand 1, of bytes: a refusal changes no lent byte, and its counts are 0. That a number is given exactly when its reason is the first that holds is said by the
--- definitions of the verdicts, lists of reasons in their order, and proved of the check in `table/proofs/Exactly.antt`.
+-- definitions of the verdicts, lists of reasons in their order, and proved of the check in `table/proofs/Exactly.antt`
+-- and of `why` in `WhyRefusals.antt`.
 use Prim.Native.Nat.{ℕ}
 use mathlib.Core.Path.{_≡_}
 use mathlib.Core.Bool.{false}
 use mathlib.Core.List.{List}
-use Rattle.basis.proofs.Pick.{pick-false}
+use lib.ListN.{length}
+use borrow.Author.Tests.{eq-eqb, ne-eqb}
+use Rattle.basis.proofs.Pick.{pick-true, pick-false, or-true-right, or-false}
 use Rattle.simplify.specs.Answer.{isAccepted, answer, answered}
 use Rattle.simplify.specs.Run.{runVerdict, runAnswer, runResult}
 use Rattle.simplify.specs.Edit.{editVerdict, editAnswer, editTable, editKept}
 use Rattle.simplify.specs.Compare.{compareVerdict, compareResult}
+use Rattle.listing.specs.Why.{listOf, whyVerdict, isMeasured, whyAnswer, whyResult, whyList}
 
 module _ (t buffer : List ℕ) (refused : isAccepted (runVerdict t buffer) ≡ false) where
   pub run-changes-nothing : runResult t buffer ≡ buffer
@@ -36,3 +40,25 @@ module _ (t buffer : List ℕ) (x y : ℕ) (refused : isAccepted (compareVerdict
   pub compare-changes-nothing : compareResult t buffer x y ≡ buffer
   unfolding compareResult
   compare-changes-nothing = pick-false (isAccepted (compareVerdict t buffer x y)) _ _ refused
+
+module _ (t buffer : List ℕ) (x : ℕ) (space : List ℕ) (refused : isAccepted (whyVerdict t buffer x space) ≡ false) where
+  pub why-changes-no-result : whyResult t buffer x space ≡ buffer
+  unfolding whyResult
+  why-changes-no-result = pick-false (isAccepted (whyVerdict t buffer x space)) _ _ refused
+
+  pub why-changes-no-list : whyList t buffer x space ≡ space
+  unfolding whyList
+  why-changes-no-list = pick-false (isAccepted (whyVerdict t buffer x space)) _ _ refused
+
+  pub why-counts-nothing : whyAnswer t buffer x space .answer ≡ answer (whyVerdict t buffer x space .number) (whyVerdict t buffer x space .row) 0 0
+  unfolding whyAnswer answered
+  why-counts-nothing = rw refused
+
+  -- with 22 the length that the list has is told, else none
+  pub why-tells-length : whyVerdict t buffer x space .number ≡ 22 → whyAnswer t buffer x space .length ≡ length (listOf t x)
+  unfolding whyAnswer isMeasured
+  why-tells-length e = pick-true _ _ _ (or-true-right (isAccepted (whyVerdict t buffer x space)) _ (eq-eqb _ _ e))
+
+  pub why-tells-nothing : (whyVerdict t buffer x space .number ≡ 22 → ⊥) → whyAnswer t buffer x space .length ≡ 0
+  unfolding whyAnswer isMeasured
+  why-tells-nothing n = pick-false _ _ _ (or-false _ _ refused (ne-eqb _ _ n))

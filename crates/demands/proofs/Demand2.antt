@@ -28,11 +28,11 @@ use Rattle.simplify.proofs.Granted.{run-granted, compare-granted}
 use Rattle.demands.specs.Own.{rowsIn}
 use Rattle.demands.proofs.Fresh.{fresh-look}
 
-formed : (t : List ℕ) → Accepted t → WellFormed (modulus t) (look t)
+pub formed : (t : List ℕ) → Accepted t → WellFormed (modulus t) (look t)
 unfolding modulus
 formed t ok = accepted-formed t ok
 
-positive : (t : List ℕ) → 0 < modulus t
+pub positive : (t : List ℕ) → 0 < modulus t
 unfolding modulus
 positive t = pow-pos (width t)
 

@@ -7,6 +7,8 @@ use Rattle.simplify.specs.declared.Comparison.{Comparison}
 use Rattle.simplify.specs.Run.{Ran}
 use Rattle.simplify.specs.Edit.{Edited}
 use Rattle.simplify.specs.Compare.{Compared}
+use Rattle.listing.specs.declared.Listing.{Listing}
+use Rattle.listing.specs.Why.{Explained}
 
 pub run-determined : {t buffer : List ℕ} {a a′ : Answer} {left left′ : List ℕ} → Ran t buffer a left → Ran t buffer a′ left′ → (a ≡ a′) × (left ≡ left′)
 run-determined p q = (p .answer-is ∙ sym (q .answer-is), p .result-is ∙ sym (q .result-is))
@@ -18,3 +20,7 @@ edit-determined p q = (p .answer-is ∙ sym (q .answer-is), p .table-is ∙ sym 
 pub compare-determined : {t buffer : List ℕ} {x y : ℕ} {a a′ : Comparison} {left left′ : List ℕ} →
     Compared t buffer x y a left → Compared t buffer x y a′ left′ → (a ≡ a′) × (left ≡ left′)
 compare-determined p q = (p .answer-is ∙ sym (q .answer-is), p .result-is ∙ sym (q .result-is))
+
+pub why-determined : {t buffer : List ℕ} {x : ℕ} {space : List ℕ} {a a′ : Listing} {left left′ listed listed′ : List ℕ} →
+    Explained t buffer x space a left listed → Explained t buffer x space a′ left′ listed′ → (a ≡ a′) × (left ≡ left′) × (listed ≡ listed′)
+why-determined p q = (p .answer-is ∙ sym (q .answer-is), p .result-is ∙ sym (q .result-is), p .list-is ∙ sym (q .list-is))

@@ -1,19 +1,23 @@
 -- Demand 2, over lookups: under every permitted choice a result row means what its original means; what is said of two result rows is so
--- of the two originals; and a result row's range holds its original's value. Every modulus M above 0 (M is 2 ^ w), every limit.
--- `Choices` has that every well-formed table has a permitted choice.
+-- of the two originals, and the reason given is true of them; and a result row's range holds its original's value. Every modulus M above 0
+-- (M is 2 ^ w), every limit. `Choices` has that every well-formed table has a permitted choice.
 use Prim.Native.Nat.{ℕ, _<_}
 use mathlib.Core.Path.{_≡_, sym, ap, _∙_, subst}
 use Rattle.range.specs.Range.{Within}
 use Rattle.term.specs.Term.{Term}
 use Rattle.term.specs.declared.Relation.the-variants.{Same, Apart}
 use Rattle.term.specs.Relation.{rangeOf, related}
+use Rattle.term.specs.Walk.{Walk}
+use Rattle.term.specs.Reason.{reason, met}
 use Rattle.term.specs.Result.{result}
 use Rattle.term.specs.WellFormed.{WellFormed}
+use Rattle.term.proofs.Follows.{Each}
 use Rattle.term.proofs.Renewed.{result-below}
 use Rattle.term.proofs.WellFormed.{formed-below}
 use Rattle.meaning.specs.Meaning.{Choice, Permitted, Meaning, meaningBy, meaning, value, content}
 use Rattle.meaning.proofs.Model.{Bounds, Model}
 use Rattle.meaning.proofs.Relations.{Says, range-in, related-says}
+use Rattle.meaning.proofs.Reasons.{Explains, reason-explains, step-explains}
 use Rattle.meaning.proofs.RuleGood.{result-model}
 use Rattle.meaning.proofs.Meanings.{meaning-only, meaning-words, meaning-model}
 
@@ -62,3 +66,13 @@ module _ (M limit : ℕ) (pos : 0 < M) (t : ℕ → Term) (formed : WellFormed M
   pub compare-apart : (x y : ℕ) → related (result M limit t) (rangeOf M (result M limit t)) x y ≡ Apart
       → value M choice t x ≡ value M choice t y → ⊥
   compare-apart x y e = subst (λ r. Says r (value M choice t x) (value M choice t y)) e (compare-says x y)
+
+  -- the reason given for two result rows is true of the originals
+  pub reason-true : (x y : ℕ)
+      → Explains M (reason (result M limit t) (rangeOf M (result M limit t)) x y) (value M choice t x) (value M choice t y)
+  reason-true = reason-explains M choice (result M limit t) (meaning M choice t) model (rangeOf M (result M limit t)) run-range-in
+
+  -- and so is the reason of each store that a walk for the index row i lists
+  pub steps-true : (i : ℕ) (w : Walk)
+      → Each (λ s. Explains M (s .why) (value M choice t (s .index)) (value M choice t i)) (met (result M limit t) (rangeOf M (result M limit t)) i w)
+  steps-true = step-explains M choice (result M limit t) (meaning M choice t) model (rangeOf M (result M limit t)) run-range-in

@@ -3,6 +3,7 @@ pub mod Model
 pub mod Value
 pub mod Words
 pub mod Relations
+pub mod Reasons
 pub mod Arrays
 pub mod RuleGood
 pub mod Meanings

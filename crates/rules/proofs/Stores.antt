@@ -22,7 +22,7 @@ use Rattle.rules.proofs.Reach.{row-reached}
 
 -- ---- a row that is no store
 
-abbrev NoStore : Term → Type 0
+abbrev pub NoStore : Term → Type 0
 NoStore (const k) = Unit {0}
 NoStore (var name k h) = Unit {0}
 NoStore (shift a k) = Unit {0}
@@ -64,10 +64,10 @@ module _ (R : List ℕ) (m : ℕ) (x : Row) (row : Decoded R m x) where
   unfolding look
   term-at = ap termOf (sym (row .is))
 
-  no-store : (x .kind ≡ WRITE → ⊥) → NoStore (look R m)
+  pub no-store : (x .kind ≡ WRITE → ⊥) → NoStore (look R m)
   no-store h = rw term-at (term-case NoStore x tt tt tt tt tt tt tt tt tt (λ (e : x .kind ≡ WRITE). h e))
 
-  store-at : x .kind ≡ WRITE → look R m ≡ write (x .a) (x .b) (x .c)
+  pub store-at : x .kind ≡ WRITE → look R m ≡ write (x .a) (x .b) (x .c)
   store-at e = term-at ∙ term-write x e
 
   pub step-ends : (g : ℕ → Range) (i : ℕ) → (x .kind ≡ WRITE → ⊥) → Stop ≡ stepAt (look R) g i (look R m)

@@ -10,6 +10,8 @@ mod words;
 
 pub use relation::Index;
 pub use relation::index_at;
+pub use relation::known_by;
+pub use relation::reason;
 pub use relation::related;
 pub use turn::rewrite;
 pub use turn::write_row;

@@ -3,12 +3,15 @@ ghost use mathlib.Core.Path.{_≡_};
 ghost use Rattle.range.specs.Store.{kept};
 ghost use Rattle.term.specs.Bytes.{look};
 ghost use Rattle.term.specs.Relation.{related};
+ghost use Rattle.term.specs.Reason.{reason, knownBy};
 ghost use Rattle.rules.specs.Ready.{Reached, Sought, Comparing};
 use super::value::Value;
 use super::value::same_base;
 use super::value::value_at;
 use range::Range;
+use term::Reason;
 use term::Relation;
+use term::Spans;
 
 // The value and the range of an index row, read once for a whole walk.
 pub struct Index {
@@ -27,22 +30,43 @@ pub fn index_at(result: &[u8], store: &[u64; 2048], i: usize) -> Index
     }
 }
 
-// What is known of row b and row i, whose index is j.
-pub fn related(result: &[u8], store: &[u64; 2048], b: usize, i: usize, j: Index) -> Relation
+// Why of row b, the index of a store, and row i, whose index is j.
+pub fn reason(result: &[u8], store: &[u64; 2048], b: usize, i: usize, j: Index) -> Reason
     requires { ⌜ Comparing (now result) (now store) b i j ⌝ }
-    ensures { λ k. ⌜ k ≡ related (look (now (result .entry))) (kept (now (store .entry))) b i ⌝ }
+    ensures { λ y. ⌜ y ≡ reason (look (now (result .entry))) (kept (now (store .entry))) b i ⌝ }
 {
     let v = value_at(result, b);
     let u = j.value;
     if same_base(v, u) {
         if v.k == u.k {
-            return Relation::Same;
+            return Reason::SamePlace;
         }
-        return Relation::Apart;
+        return Reason::Offsets(v.k, u.k);
     }
     let a = range::load(store, b);
-    if Range::disjoint(a, j.range) {
-        return Relation::Apart;
+    let c = j.range;
+    if Range::disjoint(a, c) {
+        return Reason::Separate(Spans { store: a, read: c });
     }
-    Relation::Unknown
+    Reason::Undecided
+}
+
+// What is known by a reason.
+pub fn known_by(why: Reason) -> Relation
+    ensures { λ k. ⌜ k ≡ knownBy why ⌝ }
+{
+    match why {
+        Reason::SamePlace => Relation::Same,
+        Reason::Offsets(_, _) => Relation::Apart,
+        Reason::Separate(_) => Relation::Apart,
+        Reason::Undecided => Relation::Unknown,
+    }
+}
+
+// What is known of row b and row i, whose index is j.
+pub fn related(result: &[u8], store: &[u64; 2048], b: usize, i: usize, j: Index) -> Relation
+    requires { ⌜ Comparing (now result) (now store) b i j ⌝ }
+    ensures { λ k. ⌜ k ≡ related (look (now (result .entry))) (kept (now (store .entry))) b i ⌝ }
+{
+    known_by(reason(result, store, b, i, j))
 }

@@ -1,6 +1,4 @@
 // Reads one table from standard input, makes a fresh run and prints the result, or why the table is refused.
-mod lines;
-
 use libc::STDIN_FILENO;
 use libc::STDOUT_FILENO;
 use row::Row;
@@ -8,7 +6,8 @@ ghost use mathlib.Core.Path.{_≡_};
 ghost use Prim.Native.Nat.{_+_, _≤_, min};
 ghost use lib.ListN.{length};
 ghost use Rattle.row.specs.Names.{place};
-ghost use Rattle.show.specs.Shown.{LARGEST, Chunk, Counted};
+ghost use Rattle.lines.specs.Lines.{Chunk};
+ghost use Rattle.show.specs.Shown.{LARGEST, Counted};
 
 // bytes of the largest table
 const LARGEST: usize = Row::HEADER + Row::LENGTH * table::MOST;

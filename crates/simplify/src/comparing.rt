@@ -7,9 +7,9 @@ ghost use Rattle.simplify.specs.Answer.{answer};
 ghost use Rattle.simplify.specs.Compare.{unknown, PairReached, Compared};
 use crate::Answer;
 use crate::Comparison;
-use crate::fresh::fresh;
-use crate::fresh::refused;
 use crate::judge;
+use crate::running::fresh;
+use crate::running::refused;
 use term::Relation;
 
 // A refusal's answer.

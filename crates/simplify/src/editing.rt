@@ -5,11 +5,11 @@ ghost use Rattle.row.specs.Names.{LENGTH, place};
 ghost use Rattle.simplify.specs.Edit.{edited, Edited};
 ghost use Rattle.simplify.specs.Patch.{CanTake, CanPut, CanPatch, Patched};
 use crate::Answer;
-use crate::copy::copy;
-use crate::fresh::refused;
+use crate::copying::copy;
 use crate::judge;
 use crate::marks;
 use crate::renew::renew;
+use crate::running::refused;
 use row::Row;
 
 // The bytes of row r, kept aside.

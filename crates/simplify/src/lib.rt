@@ -1,16 +1,20 @@
-// Run, edit and compare over lent bytes.
+// Run, edit and compare over lent bytes; and, for the tools that stand on a fresh run, the run itself and what it is refused for.
 mod comparing;
-mod copy;
+mod copying;
 mod editing;
-mod fresh;
 mod judge;
 mod kept;
 mod marks;
 mod renew;
+mod running;
 
 pub use comparing::compare;
+pub use copying::copy;
 pub use editing::edit;
-pub use fresh::run;
+pub use judge::room;
+pub use running::fresh;
+pub use running::refused;
+pub use running::run;
 use term::Relation;
 
 #[repr(C)]

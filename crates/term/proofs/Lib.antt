@@ -4,6 +4,8 @@ pub mod Names
 pub mod Inside
 pub mod Local
 pub mod Ranges
+pub mod Reasons
+pub mod Follows
 pub mod Renewed
 pub mod Touched
 pub mod Leads

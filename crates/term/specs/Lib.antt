@@ -3,6 +3,7 @@ pub mod Term
 pub mod Base
 pub mod Relation
 pub mod Walk
+pub mod Reason
 pub mod Rule
 pub mod Result
 pub mod Leads

@@ -8,7 +8,7 @@ use mathlib.Core.Logic.{dite}
 use mathlib.Core.List.{List, [], _∷_, _++_}
 use lib.ListN.{length, length-append}
 use borrow.Author.Tests.{lt-ltb, le-ltb}
-use Rattle.text.specs.Text.{digits, decimal}
+use Rattle.text.specs.Text.{digits, decimal, read}
 
 -- ---- how digits are made
 
@@ -100,17 +100,13 @@ decimal-all v = digits-all 19 v
 
 -- ---- reading back
 
--- the number that digits read as, after those read before them
-abbrev pub read : ℕ → List ℕ → ℕ
-read before [] = before
-read before (c ∷ cs) = read (before * 10 + (c - 48)) cs
-
 pub read-append : (before : ℕ) (xs ys : List ℕ) → read before (xs ++ ys) ≡ read (read before xs) ys
+unfolding read
 read-append before [] ys = refl
 read-append before (x ∷ xs) ys = read-append (before * 10 + (x - 48)) xs ys
 
 digits-read : (d v : ℕ) → v < 10 ^ suc d → read 0 (digits d v) ≡ v
-unfolding digits
+unfolding digits read
 digits-read zero v h = omega arith
 digits-read (suc d) v h =
     digits-case (λ (t : List ℕ). read 0 t ≡ v) d v

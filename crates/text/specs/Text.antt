@@ -1,5 +1,5 @@
 -- Text in bytes: numbers in decimal, and what it is to write a text into a slice.
-use Prim.Native.Nat.{ℕ, zero, suc, _+_, _/_, _%_, _≤_}
+use Prim.Native.Nat.{ℕ, zero, suc, _+_, _*_, _-_, _/_, _%_, _≤_}
 use Prim.Native.Char.{code}
 use Prim.Native.String.{String, [] as []ₛ, _∷_ as _∷ₛ_}
 use mathlib.Core.Path.{_≡_}
@@ -22,6 +22,11 @@ digits (suc d) v = cond (ltb v 10) ((48 + v) ∷ []) (digits d (v / 10) ++ ((48 
 -- v in decimal, for every v of 64 bits: those have at most 20 digits
 unfoldable pub decimal : ℕ → List ℕ
 decimal v = digits 19 v
+
+-- the number that digits read as, after those read before them
+unfoldable pub read : ℕ → List ℕ → ℕ
+read before [] = before
+read before (c ∷ cs) = read (before * 10 + (c - 48)) cs
 
 -- numbers in decimal, each with a space in front
 unfoldable pub spaced : List ℕ → List ℕ

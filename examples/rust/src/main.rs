@@ -1,4 +1,5 @@
-//! Simplifies table P1, widens its variable and sees what becomes of the result.
+//! Simplifies table P1, asks why its last read moved, widens its variable and sees what becomes
+//! of the result.
 
 use stezkoun::Refusal;
 
@@ -35,6 +36,11 @@ fn main() -> Result<(), Refusal> {
 
     let (_, relation) = stezkoun::compare(&table, &mut result, 2, 6)?;
     println!("rows 2 and 6: {relation:?}");
+
+    let mut room = [0; 512];
+    let (done, list) = stezkoun::why(&table, &mut result, 8, &mut room)?;
+    println!("why: removed {} touched {}", done.removed, done.touched);
+    print!("{}", String::from_utf8_lossy(list));
 
     // With the pointer anywhere from 0 the last read may no longer pass the store.
     let wide = row(VAR, [0; 3], [0, 250]);

@@ -29,6 +29,7 @@ pub fn cases(pair: &mut Pair) {
     for mut wrong in spoiled(&table) {
         pair.run(&wrong, &mut kept.clone());
         pair.compare(&wrong, &mut kept.clone(), 2, 6);
+        pair.why(&wrong, &mut kept.clone(), 8, &mut [0x5a; 130]);
         pair.edit(&mut wrong, &mut kept.clone(), 5, &table[place(2)]);
     }
     for mut wrong in spoiled(&kept) {

@@ -4,6 +4,7 @@ use crate::damage::{damaged, result_slice, row_number};
 use crate::meaning::{decoded, World};
 use crate::pair::{hex, Pair};
 use crate::replacement::replacement;
+use crate::walks;
 use second::bytes::{place, table_bytes};
 use second::{Ref, Relation, Row, Sort, Width};
 use tables::random::Random;
@@ -11,7 +12,7 @@ use tables::wellformed::{rows_of_sorts, Earlier, Taste};
 use tables::{chain, machine, wellformed};
 
 /// Evaluation walks arrays step by step, so it is left to small tables.
-const MOST_ROWS_EVALUATED: usize = 64;
+pub const MOST_ROWS_EVALUATED: usize = 64;
 
 pub fn cases(pair: &mut Pair, number: u64) {
     pair.group = format!("group {number}");
@@ -36,6 +37,7 @@ pub fn cases(pair: &mut Pair, number: u64) {
     for _ in 0..2 {
         damaged_calls(pair, random, width, &table, &result);
     }
+    walks::cases(pair, random, &table);
 }
 
 /// Most tables are small; every size up to 1,024 has its turn.
@@ -211,6 +213,7 @@ fn damaged_calls(pair: &mut Pair, random: &mut Random, width: Width, table: &[u8
     let (first, second) = (row_number(random, &wrong), row_number(random, &wrong));
     let mut slice = result_slice(random, &wrong);
     pair.compare(&wrong, &mut slice, first, second);
+    walks::any_row(pair, random, &wrong);
 
     let mut wrong = wrong;
     let mut kept = match random.below(4) {

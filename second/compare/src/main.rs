@@ -4,12 +4,14 @@ mod damage;
 mod every_byte;
 mod groups;
 mod lent;
+mod lines;
 mod meaning;
 mod pair;
 mod paper;
 mod pipes;
 mod replacement;
 mod tally;
+mod walks;
 
 use pair::Pair;
 use std::path::PathBuf;
@@ -17,7 +19,7 @@ use std::process::ExitCode;
 use std::time::Instant;
 
 const USAGE: &str = "compare [SEED] [--groups N] [--only GROUP] [--trace]
-        [--show PROGRAM [--second-show PROGRAM]]";
+        [--show PROGRAM [--second-show PROGRAM]] [--why PROGRAM [--second-why PROGRAM]]";
 
 struct Wishes {
     seed: u64,
@@ -27,12 +29,16 @@ struct Wishes {
     trace: bool,
     show: Option<PathBuf>,
     second_show: PathBuf,
+    why: Option<PathBuf>,
+    second_why: PathBuf,
 }
 
 fn wishes() -> Option<Wishes> {
-    let second_show = std::env::current_exe().ok()?.with_file_name("second-show");
-    let (seed, groups, only, trace, show) = (20260101, 21_000, None, false, None);
-    let mut wishes = Wishes { seed, groups, only, trace, show, second_show };
+    let this = std::env::current_exe().ok()?;
+    let [second_show, second_why] =
+        ["second-show", "second-why"].map(|name| this.with_file_name(name));
+    let (seed, groups, only, trace, show, why) = (20260101, 21_000, None, false, None, None);
+    let mut wishes = Wishes { seed, groups, only, trace, show, second_show, why, second_why };
     let mut words = std::env::args().skip(1);
     while let Some(word) = words.next() {
         match word.as_str() {
@@ -41,6 +47,8 @@ fn wishes() -> Option<Wishes> {
             "--trace" => wishes.trace = true,
             "--show" => wishes.show = Some(words.next()?.into()),
             "--second-show" => wishes.second_show = words.next()?.into(),
+            "--why" => wishes.why = Some(words.next()?.into()),
+            "--second-why" => wishes.second_why = words.next()?.into(),
             seed => wishes.seed = seed.parse().ok()?,
         }
     }
@@ -61,6 +69,7 @@ fn main() -> ExitCode {
         return ExitCode::from((pair.differences != 0) as u8);
     }
     paper::cases(&mut pair);
+    walks::stated(&mut pair);
     every_byte::cases(&mut pair);
     for group in 0..wishes.groups {
         if wishes.trace {
@@ -70,7 +79,10 @@ fn main() -> ExitCode {
     }
     let never = pair.tally.print();
     if let Some(show) = &wishes.show {
-        pipes::cases(&mut pair, show, &wishes.second_show);
+        pipes::show(&mut pair, [show, &wishes.second_show]);
+    }
+    if let Some(why) = &wishes.why {
+        pipes::why(&mut pair, [why, &wishes.second_why]);
     }
     println!("{} tables generated, {:.1} s", wishes.groups, began.elapsed().as_secs_f64());
     if never != 0 {

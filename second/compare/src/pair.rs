@@ -2,8 +2,9 @@
 //! number and every byte must agree.
 
 use crate::lent::Lent;
+use crate::lines::List;
 use crate::tally::{Call, Seen, Tally};
-use second::{Answer, Comparison, Relation};
+use second::{Answer, Comparison, Listing};
 use stezkoun::numbers;
 use tables::random::Random;
 
@@ -17,19 +18,19 @@ pub struct Pair {
     alignment: Random,
 }
 
-/// Refusal, row, removed, touched and relation.
+/// Refusal, row, removed, touched, and a call's own: a relation, a length or 0.
 type Numbers = [u64; 5];
 
 pub fn hex(bytes: &[u8]) -> String {
     bytes.iter().map(|byte| format!("{byte:02x}")).collect()
 }
 
-fn library_numbers(answer: numbers::Answer, relation: u64) -> Numbers {
-    [answer.refusal, answer.row, answer.removed, answer.touched, relation]
+fn library_numbers(answer: numbers::Answer, own: u64) -> Numbers {
+    [answer.refusal, answer.row, answer.removed, answer.touched, own]
 }
 
-fn second_numbers(answer: Answer, relation: Relation) -> Numbers {
-    [answer.refusal, answer.row, answer.removed, answer.touched, relation as u64]
+fn second_numbers(answer: Answer, own: u64) -> Numbers {
+    [answer.refusal, answer.row, answer.removed, answer.touched, own]
 }
 
 impl Pair {
@@ -53,7 +54,7 @@ impl Pair {
         let mut seen = Seen::default();
         let answer = second::run_watched(table, result, &mut seen);
         self.tally.add(Call::Run, answer, &seen);
-        let expected = second_numbers(answer, Relation::NotKnown);
+        let expected = second_numbers(answer, 0);
         let buffers = [("table", lent, table), ("result", room, result)];
         self.agree("run", given, expected, buffers);
         answer
@@ -68,8 +69,7 @@ impl Pair {
         let mut seen = Seen::default();
         let answer = second::edit_watched(table, kept, row, replacement, &mut seen);
         self.tally.add(Call::Edit, answer, &seen);
-        let (given, expected) =
-            (library_numbers(given, 0), second_numbers(answer, Relation::NotKnown));
+        let (given, expected) = (library_numbers(given, 0), second_numbers(answer, 0));
         let buffers =
             [("table", lent, &*table), ("kept", room, kept), ("replacement", new, replacement)];
         self.agree(&format!("edit row {row}"), given, expected, buffers);
@@ -86,10 +86,37 @@ impl Pair {
         self.tally.add(Call::Compare, comparison.answer, &seen);
         self.tally.add_relation(comparison);
         let given = library_numbers(given.answer, given.relation);
-        let expected = second_numbers(comparison.answer, comparison.relation);
+        let expected = second_numbers(comparison.answer, comparison.relation as u64);
         let buffers = [("table", lent, table), ("result", room, result)];
         self.agree(&format!("compare rows {first} and {second}"), given, expected, buffers);
         comparison
+    }
+
+    pub fn why(&mut self, table: &[u8], result: &mut [u8], row: u64, list: &mut [u8]) -> Listing {
+        let [mut lent, mut room, mut space] =
+            [table, &*result, &*list].map(|bytes| self.lent(bytes));
+        let given = numbers::why(lent.content(), room.content(), row, space.content());
+        let mut seen = Seen::default();
+        let listing = second::why_watched(table, result, row, list, &mut seen);
+        self.tally.add(Call::Why, listing.answer, &seen);
+        if listing.answer.refusal == 0 {
+            self.list(table, row, &space.before, list, listing.length as usize);
+        }
+        let given = library_numbers(given.answer, given.length);
+        let expected = second_numbers(listing.answer, listing.length);
+        let buffers = [("table", lent, table), ("result", room, &*result), ("list", space, list)];
+        self.agree(&format!("why row {row}"), given, expected, buffers);
+        listing
+    }
+
+    /// Holds the second program's list, and so both, to its stated lines and length, and counts it.
+    fn list(&mut self, table: &[u8], row: u64, before: &[u8], after: &[u8], length: usize) {
+        let list = List::of(&after[..length]).filter(|list| length <= list.most_bytes());
+        let right = list.is_some() && after[length..] == before[length..];
+        self.expect(right, || format!("a wrong list for row {row} of {}", hex(table)));
+        if let Some(list) = list {
+            self.tally.add_list(&list);
+        }
     }
 
     fn lent(&mut self, content: &[u8]) -> Lent {
@@ -104,7 +131,7 @@ impl Pair {
         self.cases += 1;
         let mut wrong = None;
         if given != expected {
-            wrong = Some("refusal, row, removed, touched, relation".to_string());
+            wrong = Some("refusal, row, removed, touched, relation or length".to_string());
         }
         for (name, lent, after) in &mut buffers {
             if !lent.guards_stand() {

@@ -29,12 +29,12 @@ fn accepted(removed: u64, touched: u64) -> Answer {
     Answer { refusal: 0, row: 0, removed, touched }
 }
 
-fn refused(refusal: u64, row: u64) -> Answer {
+pub fn refused(refusal: u64, row: u64) -> Answer {
     Answer { refusal, row, removed: 0, touched: 0 }
 }
 
-fn table(text: &str) -> Vec<u8> {
-    packed(text).expect("a table of document 01")
+pub fn table(text: &str) -> Vec<u8> {
+    packed(text).expect("rows as text")
 }
 
 fn runs(pair: &mut Pair, table: &[u8], answer: Answer, result: Option<&[u8]>) {

@@ -1,26 +1,63 @@
-//! The program `show` beside `second-show`: both read the same tables through pipes.
+//! The programs `show` and `why` beside `second-show` and `second-why`: both of a kind are given
+//! the same arguments and read the same tables through pipes.
 
-use crate::damage::damaged;
+use crate::damage::{damaged, row_number};
 use crate::groups::some_rows;
 use crate::pair::{hex, Pair};
 use crate::paper::p1;
+use crate::walks::reads;
 use second::bytes::table_bytes;
 use second::{Row, Width};
+use std::ffi::OsStr;
 use std::io::Write;
+use std::os::unix::ffi::OsStrExt;
 use std::path::Path;
 use std::process::{Command, Stdio};
 use tables::random::Random;
 
 const TABLES: u64 = 400;
 
-fn printed(program: &Path, input: &[u8]) -> Vec<u8> {
+/// Arguments of `why`: numbers, each on its own, and what is not the number of a row.
+const NUMBERS: [&str; 6] =
+    ["0", "08", "00000000000000000008", "1024", "10000000000000000000", "18446744073709551615"];
+const WRONG: [&[&[u8]]; 19] = [
+    &[],
+    &[b""],
+    &[b"", b"8"],
+    &[b"8", b""],
+    &[b"8", b"8"],
+    &[b"8", b"8", b"8"],
+    &[b"+8"],
+    &[b"-8"],
+    &[b" 8"],
+    &[b"8 "],
+    &[b"8\n"],
+    &[b"8x"],
+    &[b"eight"],
+    &[b"/8"],
+    &[b":8"],
+    &[b"8\xff"],
+    // 8 + 2^64, another that does not fit 64 bits, and one digit too many.
+    &[b"18446744073709551624"],
+    &[b"99999999999999999999"],
+    &[b"000000000000000000008"],
+];
+
+/// What a program is told, and what it finds on standard input.
+struct Call {
+    arguments: Vec<Vec<u8>>,
+    input: Vec<u8>,
+}
+
+fn printed(program: &Path, call: &Call) -> Vec<u8> {
     let mut child = Command::new(program)
+        .args(call.arguments.iter().map(|argument| OsStr::from_bytes(argument)))
         .stdin(Stdio::piped())
         .stdout(Stdio::piped())
         .spawn()
         .unwrap_or_else(|fault| panic!("{}: {fault}", program.display()));
     // A program that has read enough may close its end: that is no fault.
-    let _ = child.stdin.take().expect("piped").write_all(input);
+    let _ = child.stdin.take().expect("piped").write_all(&call.input);
     child.wait_with_output().expect("a child's output").stdout
 }
 
@@ -45,17 +82,44 @@ fn inputs(seed: u64) -> Vec<Vec<u8>> {
     inputs
 }
 
-pub fn cases(pair: &mut Pair, show: &Path, second_show: &Path) {
-    let inputs = inputs(pair.seed);
-    println!("show: {} tables through pipes", inputs.len());
-    for (number, input) in inputs.iter().enumerate() {
-        pair.group = format!("show {number}");
+/// The program and the second one.
+pub type Programs<'p> = [&'p Path; 2];
+
+pub fn show(pair: &mut Pair, programs: Programs) {
+    let calls = inputs(pair.seed).into_iter().map(|input| Call { arguments: vec![], input });
+    alike(pair, "show", programs, calls.collect());
+}
+
+pub fn why(pair: &mut Pair, programs: Programs) {
+    let random = &mut Random::new(!pair.seed);
+    let mut calls = Vec::new();
+    for input in inputs(pair.seed) {
+        let reads = reads(&input);
+        let row = match random.below(4) {
+            0..=2 if !reads.is_empty() => random.pick(&reads),
+            _ => row_number(random, &input),
+        };
+        calls.push(Call { arguments: vec![row.to_string().into()], input });
+    }
+    let numbers = NUMBERS.map(|number| vec![number.into()]);
+    let wrong = WRONG.map(|words| words.iter().map(|word| word.to_vec()).collect());
+    calls.extend(numbers.into_iter().chain(wrong).map(|arguments| Call { arguments, input: p1() }));
+    alike(pair, "why", programs, calls);
+}
+
+fn alike(pair: &mut Pair, name: &str, [program, second]: Programs, calls: Vec<Call>) {
+    println!("{name}: {} calls through pipes", calls.len());
+    for (number, call) in calls.iter().enumerate() {
+        pair.group = format!("{name} {number}");
         pair.cases += 1;
-        let (given, expected) = (printed(show, input), printed(second_show, input));
+        let [given, expected] = [program, second].map(|program| printed(program, call));
         pair.expect(given == expected && !expected.is_empty(), || {
-            let (given, expected) =
-                (String::from_utf8_lossy(&given), String::from_utf8_lossy(&expected));
-            format!("show printed\n{given}\nsecond-show\n{expected}\nfor {}", hex(input))
+            let [given, expected] =
+                [given, expected].map(|text| String::from_utf8_lossy(&text).into_owned());
+            let arguments: Vec<_> =
+                call.arguments.iter().map(|word| String::from_utf8_lossy(word)).collect();
+            let input = hex(&call.input);
+            format!("{name} {arguments:?} printed\n{given}\nsecond\n{expected}\nfor {input}")
         });
     }
 }

@@ -1,27 +1,34 @@
 //! What the cases reached.
 
+use crate::lines::{List, ENDS, REASONS};
 use second::{Answer, Comparison, Event, Relation, Watch};
+
+/// One more than the highest refusal.
+const REFUSALS: usize = 23;
 
 #[derive(Clone, Copy, PartialEq, Eq)]
 pub enum Call {
     Run,
     Edit,
     Compare,
+    Why,
 }
 
 impl Call {
-    pub const ALL: [Call; 3] = [Call::Run, Call::Edit, Call::Compare];
+    pub const ALL: [Call; 4] = [Call::Run, Call::Edit, Call::Compare, Call::Why];
 
     pub fn name(self) -> &'static str {
-        ["run", "edit", "compare"][self as usize]
+        ["run", "edit", "compare", "why"][self as usize]
     }
 
-    /// The refusals that document 01 lets this call give, and acceptance.
+    /// The refusals that the documents let this call give, and acceptance.
     fn may_give(self, refusal: usize) -> bool {
-        match self {
-            Call::Run => ![7, 8, 16].contains(&refusal),
-            Call::Edit => true,
-            Call::Compare => ![8, 16].contains(&refusal),
+        match refusal {
+            0..=6 | 9..=15 => true,
+            7 => self != Call::Run,
+            8 | 16 => self == Call::Edit,
+            17 | 22 => self == Call::Why,
+            _ => false,
         }
     }
 }
@@ -43,9 +50,11 @@ impl Watch for Seen {
 
 #[derive(Default)]
 pub struct Tally {
-    calls: [u64; 3],
-    refusals: [[u64; 17]; 3],
+    calls: [u64; 4],
+    refusals: [[u64; REFUSALS]; 4],
     relations: [u64; 3],
+    reasons: [u64; REASONS.len()],
+    ends: [u64; ENDS.len()],
     events: Vec<u64>,
 }
 
@@ -65,6 +74,13 @@ impl Tally {
         }
     }
 
+    pub fn add_list(&mut self, list: &List) {
+        for store in &list.stores {
+            self.reasons[store.reason as usize] += 1;
+        }
+        self.ends[list.end as usize] += 1;
+    }
+
     /// Prints the shares and returns how many things were never reached.
     pub fn print(&self) -> u64 {
         let mut never = 0;
@@ -77,7 +93,7 @@ impl Tally {
         for call in Call::ALL {
             let cases = self.calls[call as usize];
             println!("{}: {cases} cases, shares of them", call.name());
-            for refusal in (0..17).filter(|refusal| call.may_give(*refusal)) {
+            for refusal in (0..REFUSALS).filter(|refusal| call.may_give(*refusal)) {
                 let name =
                     if refusal == 0 { "accepted".into() } else { format!("refusal {refusal}") };
                 line(&name, self.refusals[call as usize][refusal], cases);
@@ -87,6 +103,16 @@ impl Tally {
         println!("relations, shares of {accepted} accepted comparisons");
         for relation in [Relation::NotKnown, Relation::Same, Relation::Apart] {
             line(&format!("{relation:?}"), self.relations[relation as usize], accepted);
+        }
+        let stores = self.reasons.iter().sum();
+        println!("reasons listed, shares of {stores} stores compared");
+        for (reason, form) in REASONS {
+            line(form, self.reasons[reason as usize], stores);
+        }
+        let lists = self.ends.iter().sum();
+        println!("ends listed, shares of {lists} lists");
+        for (end, count) in ENDS.iter().zip(self.ends) {
+            line(end, count, lists);
         }
         let cases = self.calls.iter().sum();
         println!("rules and ends of walks, shares of all {cases} cases");

@@ -1,20 +1,23 @@
-//! The second program: the term table of document 01, written from that document alone, so
-//! that the library can be held to it. Rows are decoded once, worked on as enums, and encoded
+//! The second program: the term table of document 01 and the lists of docs/WHY.md, written from
+//! those documents alone, so that the library can be held to it. Rows are decoded once, worked on as enums, and encoded
 //! at the end; nothing lent is written before the outcome is certain.
 
 pub mod bytes;
 pub mod check;
 mod normal;
 mod range;
+mod reason;
 mod row;
 mod simplify;
 pub mod text;
 mod watch;
+mod why;
 mod word;
 
+pub use reason::Relation;
 pub use row::{Ref, Row, Sort};
-pub use simplify::Relation;
 pub use watch::{Event, Watch};
+pub use why::{why, why_watched, Listing};
 pub use word::Width;
 
 use bytes::{place, row_bytes, table_length, HEADER, ROW};

@@ -2,15 +2,15 @@
 
 use crate::normal::{Base, Normal};
 use crate::range::Range;
+use crate::reason::{Reason, Relation};
 use crate::row::{Ref, Row};
 use crate::watch::{Event, Watch};
 use crate::word::Width;
 
-#[derive(Clone, Copy, PartialEq, Eq, Debug)]
-pub enum Relation {
-    NotKnown,
-    Same,
-    Apart,
+/// Where a read's walk ended.
+pub enum End {
+    Found { element: Ref },
+    Stands { on: Ref },
 }
 
 pub struct Simplifier<'w, W: Watch> {
@@ -53,18 +53,26 @@ impl<'w, W: Watch> Simplifier<'w, W> {
     }
 
     pub fn relation(&mut self, first: Ref, second: Ref) -> Relation {
+        self.reason(first, second).relation()
+    }
+
+    /// Each step of a walk asks this; as a call it would cost the longest walks a third.
+    #[inline(always)]
+    fn reason(&mut self, first: Ref, second: Ref) -> Reason {
         let (one, other) = (self.normal(first), self.normal(second));
         if one == other {
-            Relation::Same
-        } else if one.base == other.base {
-            self.watch.saw(Event::ApartByBase);
-            Relation::Apart
-        } else if !self.ranges[first].shares_a_number(self.ranges[second]) {
-            self.watch.saw(Event::ApartByRange);
-            Relation::Apart
-        } else {
-            Relation::NotKnown
+            return Reason::SamePlace;
         }
+        if one.base == other.base {
+            self.watch.saw(Event::ApartByBase);
+            return Reason::SharedBase { offsets: [one.offset, other.offset] };
+        }
+        let ranges = [self.ranges[first], self.ranges[second]];
+        if ranges[0].shares_a_number(ranges[1]) {
+            return Reason::Undecided;
+        }
+        self.watch.saw(Event::ApartByRange);
+        Reason::SeparateRanges { ranges }
     }
 
     fn normal(&self, word: Ref) -> Normal {
@@ -158,22 +166,33 @@ impl<'w, W: Watch> Simplifier<'w, W> {
     }
 
     fn read(&mut self, from: Ref, index: Ref) -> Row {
+        match self.walk(from, index, |_, _, _| {}) {
+            End::Found { element } => self.shift(element, 0),
+            End::Stands { on } => Row::Read { array: on, index: self.plain_name(index) },
+        }
+    }
+
+    /// The walk of a read at `index`: `compared` is told each store, its index and the reason.
+    pub fn walk(
+        &mut self, from: Ref, index: Ref, mut compared: impl FnMut(Ref, Ref, Reason),
+    ) -> End {
         let mut array = from;
-        let end = loop {
+        let (event, end) = loop {
             let Row::Write { array: below, index: at, value } = self.rows[array] else {
-                break Event::ReadStoppedAtFresh;
+                break (Event::ReadStoppedAtFresh, End::Stands { on: array });
             };
-            match self.relation(at, index) {
-                Relation::Same => {
-                    self.watch_walk(from, array, Event::ReadMetSame);
-                    return self.shift(value, 0);
-                }
+            let reason = self.reason(at, index);
+            compared(array, at, reason);
+            match reason.relation() {
+                Relation::Same => break (Event::ReadMetSame, End::Found { element: value }),
                 Relation::Apart => array = below,
-                Relation::NotKnown => break Event::ReadStoppedUndecided,
+                Relation::NotKnown => {
+                    break (Event::ReadStoppedUndecided, End::Stands { on: array });
+                }
             }
         };
-        self.watch_walk(from, array, end);
-        Row::Read { array, index: self.plain_name(index) }
+        self.watch_walk(from, array, event);
+        end
     }
 
     fn watch_walk(&mut self, from: Ref, reached: Ref, end: Event) {

@@ -1,27 +1,59 @@
-//! Tables as text: what `show` prints, and the row language the example tables are written in.
+//! Tables as text: what `show` and `why` print, and the row language the example tables are
+//! written in.
 
-use crate::bytes::{numbers, table_bytes};
+use crate::bytes::{numbers, table_bytes, table_length, MOST_ROWS};
 use crate::check::{check_header, check_rows};
-use crate::row::Row;
-use crate::run;
+use crate::row::{Ref, Row};
 use crate::word::Width;
-use std::fmt::Write;
+use crate::{run, why, Answer};
+use std::io::{self, Read};
+
+/// Room for every list: 256 bytes for each of at most 1,023 stores compared, and 256 more.
+pub const LONGEST_LIST: usize = 256 * MOST_ROWS;
+
+/// The table on standard input, or one byte more than the longest table, which is seen to be
+/// too long.
+pub fn read_table() -> io::Result<Vec<u8>> {
+    let mut table = Vec::new();
+    let most = table_length(MOST_ROWS) as u64 + 1;
+    io::stdin().lock().take(most).read_to_end(&mut table)?;
+    Ok(table)
+}
 
 /// What `show` prints for a table.
 pub fn shown(table: &[u8]) -> String {
     let mut result = vec![0; table.len()];
     let answer = run(table, &mut result);
     if answer.refusal != 0 {
-        return format!("refused {} row {}\n", answer.refusal, answer.row);
+        return refusal_line(answer);
     }
     let header = check_header(&result).expect("a result has its table's header");
     let rows = check_rows(&result, header).expect("a result is well formed");
     let mut text = format!("width {} rows {}\n", header.width.bits(), header.rows);
     for (number, row) in rows.iter().enumerate() {
-        let (kind, [a, b, c], [k, h]) = numbers(*row);
-        writeln!(text, "{number} {kind} {a} {b} {c} {k} {h}").unwrap();
+        text += &row_line(number, *row);
     }
     text
+}
+
+/// What `why` prints for a row of a table.
+pub fn listed(table: &[u8], row: u64) -> String {
+    let (mut result, mut list) = (vec![0; table.len()], vec![0; LONGEST_LIST]);
+    let listing = why(table, &mut result, row, &mut list);
+    if listing.answer.refusal != 0 {
+        return refusal_line(listing.answer);
+    }
+    list.truncate(listing.length as usize);
+    String::from_utf8(list).expect("a list is text")
+}
+
+pub fn row_line(number: Ref, row: Row) -> String {
+    let (kind, [a, b, c], [k, h]) = numbers(row);
+    format!("{number} {kind} {a} {b} {c} {k} {h}\n")
+}
+
+fn refusal_line(answer: Answer) -> String {
+    format!("refused {} row {}\n", answer.refusal, answer.row)
 }
 
 /// A table from `width 8` and rows such as `SHIFT 0 248`, each on a line or ended by a semicolon;

@@ -47,8 +47,22 @@ pub fn compare(
     outcome(comparison.answer).map(|done| (done, relation))
 }
 
+/// Simplifies `table` into `result` and lists why its READ row `row` moved. The list is the first
+/// bytes of `list`, which are given back.
+pub fn why<'l>(
+    table: &[u8], result: &mut [u8], row: u64, list: &'l mut [u8],
+) -> Result<(Done, &'l [u8]), Refusal> {
+    let numbers::Listing { answer, length } = numbers::why(table, result, row, list);
+    listed(answer, length).map(|done| (done, &list[..length as usize]))
+}
+
 fn outcome(answer: numbers::Answer) -> Result<Done, Refusal> {
-    match Refusal::from_numbers(answer.refusal, answer.row) {
+    listed(answer, 0)
+}
+
+/// The outcome of a call that has a list of this length, or none and 0.
+fn listed(answer: numbers::Answer, length: u64) -> Result<Done, Refusal> {
+    match Refusal::from_numbers(answer.refusal, answer.row, length) {
         None => Ok(Done { removed: answer.removed, touched: answer.touched }),
         Some(refusal) => Err(refusal),
     }

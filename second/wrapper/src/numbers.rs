@@ -16,6 +16,13 @@ pub struct Comparison {
     pub relation: u64,
 }
 
+#[repr(C)]
+#[derive(Clone, Copy, PartialEq, Eq, Debug)]
+pub struct Listing {
+    pub answer: Answer,
+    pub length: u64,
+}
+
 extern "C" {
     fn stezkoun_run(
         table: *const u8, table_len: usize, result: *mut u8, result_len: usize,
@@ -28,6 +35,10 @@ extern "C" {
         table: *const u8, table_len: usize, result: *mut u8, result_len: usize, first: u64,
         second: u64,
     ) -> Comparison;
+    fn stezkoun_why(
+        table: *const u8, table_len: usize, result: *mut u8, result_len: usize, row: u64,
+        list: *mut u8, list_len: usize,
+    ) -> Listing;
 }
 
 // Slices are never null, and the borrow rules keep lent buffers from overlapping: that is all
@@ -60,6 +71,20 @@ pub fn compare(table: &[u8], result: &mut [u8], first: u64, second: u64) -> Comp
             result.len(),
             first,
             second,
+        )
+    }
+}
+
+pub fn why(table: &[u8], result: &mut [u8], row: u64, list: &mut [u8]) -> Listing {
+    unsafe {
+        stezkoun_why(
+            table.as_ptr(),
+            table.len(),
+            result.as_mut_ptr(),
+            result.len(),
+            row,
+            list.as_mut_ptr(),
+            list.len(),
         )
     }
 }

@@ -1,6 +1,7 @@
 //! Why a call was refused.
 
-/// Refusals 1 to 16 in their order; include/stezkoun.h says what each means.
+/// The refusals in their order; include/stezkoun.h says what each means. The length of a list is
+/// what to lend for it.
 #[derive(Clone, Copy, PartialEq, Eq, Debug)]
 pub enum Refusal {
     TableTooShort,
@@ -19,10 +20,12 @@ pub enum Refusal {
     Sort { row: u64 },
     Bounds { row: u64 },
     KeptResult,
+    NotARead { row: u64 },
+    ListTooShort { length: u64 },
 }
 
 impl Refusal {
-    pub(crate) fn from_numbers(refusal: u64, row: u64) -> Option<Refusal> {
+    pub(crate) fn from_numbers(refusal: u64, row: u64, length: u64) -> Option<Refusal> {
         Some(match refusal {
             0 => return None,
             1 => Refusal::TableTooShort,
@@ -41,6 +44,8 @@ impl Refusal {
             14 => Refusal::Sort { row },
             15 => Refusal::Bounds { row },
             16 => Refusal::KeptResult,
+            17 => Refusal::NotARead { row },
+            22 => Refusal::ListTooShort { length },
             other => unreachable!("libstezkoun gave refusal {other}"),
         })
     }

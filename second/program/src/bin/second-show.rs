@@ -1,12 +1,8 @@
 //! Reads one table from standard input and prints its result as text.
 
-use std::io::{self, Read, Write};
-
-/// One byte more than the longest table, so that a longer input is seen to be too long.
-const MOST_BYTES: u64 = 26_631;
+use second::text::{read_table, shown};
+use std::io::{self, Write};
 
 fn main() -> io::Result<()> {
-    let mut table = Vec::new();
-    io::stdin().lock().take(MOST_BYTES).read_to_end(&mut table)?;
-    io::stdout().write_all(second::text::shown(&table).as_bytes())
+    io::stdout().write_all(shown(&read_table()?).as_bytes())
 }

@@ -1,41 +1,16 @@
 use borrow.Author.Needs.{needs}
-use Rattle.rules.proofs.Relations.{related-same, related-offsets, related-ranges, related-neither}
+use Rattle.rules.proofs.Relations.{related-known}
 use Rattle.rules.proofs.relation.related.Statement.{statement}
 use Rattle.rules.proofs.relation.related.Tie as tie
 
-value-at-requires : tie.Need-value-at-requires
-value-at-requires c κs = search needs
+reason-requires : tie.Need-reason-requires
+reason-requires c κs = search needs
 
-same-base-requires : tie.Need-same-base-requires
-same-base-requires c κs = search needs
+known-by-requires : tie.Need-known-by-requires
+known-by-requires c κs = search needs
 
 returns : tie.Need-returns
-returns c = search related-same
-
-returns-2 : tie.Need-returns-2
-returns-2 c = search related-offsets
-
-load-requires : tie.Need-load-requires
-load-requires c κs = search needs
-
-disjoint-requires : tie.Need-disjoint-requires
-disjoint-requires c κs = search needs
-
-returns-3 : tie.Need-returns-3
-returns-3 c = search related-ranges
-
-returns-4 : tie.Need-returns-4
-returns-4 c = search related-neither
+returns c = search related-known
 
 pub related-spec : {M : Type 1} → statement M
-related-spec =
-    tie.close
-    (tie.spec
-    value-at-requires
-    same-base-requires
-    returns
-    returns-2
-    load-requires
-    disjoint-requires
-    returns-3
-    returns-4)
+related-spec = tie.close (tie.spec reason-requires known-by-requires returns)

@@ -1,0 +1,3 @@
+-- Laws of the lines.
+pub mod Printed
+pub mod Examples

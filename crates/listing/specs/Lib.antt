@@ -1,0 +1,4 @@
+-- What the contracts of this crate say.
+pub mod List
+pub mod Ready
+pub mod Why

@@ -1,0 +1,79 @@
+-- The list of a walk, as a person reads it: docs/WHY.md.
+use Prim.Native.Nat.{ℕ, _+_, _*_}
+use mathlib.Core.List.{List, [], _∷_, _++_}
+use Rattle.range.specs.declared.Range.{Range}
+use Rattle.row.specs.declared.Row.{Row}
+use Rattle.lines.specs.Lines.{line}
+use Rattle.term.specs.declared.Reason.{Reason}
+use Rattle.term.specs.declared.Reason.the-variants.{SamePlace, Offsets, Separate, Undecided}
+use Rattle.term.specs.declared.Met.{Met}
+use Rattle.term.specs.Term.{Term, const, var, shift, sum, diff, neg, read, fresh, write}
+use Rattle.term.specs.Walk.{Walk, found, passed, undecided, ended, walk}
+use Rattle.term.specs.Reason.{met}
+use Rattle.text.specs.Text.{ascii, decimal}
+
+-- a range: the one place where a range is written
+unfoldable pub rangeText : Range → List ℕ
+rangeText a = decimal (a .lo) ++ ascii ".." ++ decimal (a .hi)
+
+unfoldable pub reasonText : Reason → List ℕ
+reasonText SamePlace = ascii "same place"
+reasonText (Offsets p q) = ascii "different offsets on a shared base, " ++ decimal p ++ ascii " and " ++ decimal q
+reasonText (Separate spans) = ascii "separate ranges, " ++ rangeText (spans .store) ++ ascii " and " ++ rangeText (spans .read)
+reasonText Undecided = ascii "undecided"
+
+-- READ row r, of array m at index i
+unfoldable pub readLine : ℕ → ℕ → ℕ → List ℕ
+readLine r m i = ascii "read " ++ decimal r ++ ascii ": array " ++ decimal m ++ ascii ", index " ++ decimal i ++ ascii "\n"
+
+-- a store that was compared with index row i
+unfoldable pub storeLine : ℕ → Met → List ℕ
+storeLine i s =
+    ascii "store " ++ decimal (s .store) ++ ascii ": index " ++ decimal (s .index) ++ ascii " against " ++ decimal i ++ ascii ", " ++
+    reasonText (s .why) ++ ascii "\n"
+
+unfoldable pub storeLines : ℕ → List Met → List ℕ
+storeLines i [] = []
+storeLines i (s ∷ ss) = storeLine i s ++ storeLines i ss
+
+-- where a walk ended: the row of the element that was found, or the array that the read stands on
+unfoldable pub foundLine : ℕ → List ℕ
+foundLine c = ascii "found element " ++ decimal c ++ ascii "\n"
+
+unfoldable pub standsLine : ℕ → List ℕ
+standsLine m = ascii "stands on array " ++ decimal m ++ ascii "\n"
+
+unfoldable pub endLine : Walk → List ℕ
+endLine (found m c) = foundLine c
+endLine (passed m onward) = endLine onward
+endLine (undecided m) = standsLine m
+endLine (ended m) = standsLine m
+
+-- result row r, which is x, as `show` prints it
+unfoldable pub resultLine : ℕ → Row → List ℕ
+resultLine r x = ascii "result " ++ line r x
+
+-- the stores that the walk w compared for index row i, nearest first, and where it ended
+unfoldable pub walkLines : (ℕ → Term) → (ℕ → Range) → ℕ → Walk → List ℕ
+walkLines f g i w = storeLines i (met f g i w) ++ endLine w
+
+-- the list of READ row r, of array m at index i, whose walk is w; x is the row that it became
+unfoldable pub list : (ℕ → Term) → (ℕ → Range) → ℕ → ℕ → ℕ → Walk → Row → List ℕ
+list f g r m i w x = readLine r m i ++ walkLines f g i w ++ resultLine r x
+
+-- the bytes that a list takes at most, by the number of stores compared
+abbrev pub most : ℕ → ℕ
+most compared = 256 * compared + 256
+
+-- the list of row r of a table, which is the given term: a read compares at most `limit` stores. (Of a row that is no READ none is asked for.)
+module _ (limit : ℕ) (f : ℕ → Term) (g : ℕ → Range) (r : ℕ) (x : Row) where
+  unfoldable pub listFor : Term → List ℕ
+  listFor (const k) = []
+  listFor (var name k h) = []
+  listFor (shift a k) = []
+  listFor (sum a b k) = []
+  listFor (diff a b k) = []
+  listFor (neg a k) = []
+  listFor (read m i) = list f g r m i (walk f g i limit m) x
+  listFor fresh = []
+  listFor (write a b c) = []

@@ -1,0 +1,39 @@
+-- What the functions ask of their callers. T are the bytes of a table, R those of its result, S is the store of ranges.
+use Prim.Native.Nat.{ℕ, suc, _+_, _^_, _≤_, _<_}
+use mathlib.Core.Path.{_≡_}
+use mathlib.Core.Bool.{true}
+use mathlib.Core.List.{List}
+use lib.ListN.{length}
+use Rattle.row.specs.Names.{LENGTH, place}
+use Rattle.basis.specs.Reason.{first}
+use Rattle.table.specs.Refusals.{rows, headReasons, checkTable, accepted}
+use Rattle.term.specs.Term.{isRead}
+use Rattle.term.specs.Bytes.{look}
+use Rattle.rules.specs.declared.relation.Index.{Index}
+use Rattle.rules.specs.Ready.{NamesBelow, Standing, Walking}
+use Rattle.simplify.specs.Answer.{LIMIT}
+
+-- of the lines of a walk that begins at array row m, written from `at` on
+pub record Telling (R S : List ℕ) (at limit r i : ℕ) (j : Index) (m : ℕ) : Type 0 where
+  pub walking : Walking R S r i j m
+  pub early : at < 2 ^ 16
+  pub few : limit ≤ LIMIT
+
+-- of the list of READ row r of a table
+pub record Listable (T R : List ℕ) (r : ℕ) : Type 0 where
+  pub room : place r + LENGTH ≤ length T
+  pub reads : isRead (look T r) ≡ true
+  pub names : NamesBelow r (look T r)
+  pub rows : Standing R (suc r)
+
+-- of an explanation: an accepted table, room for its result, and a READ row
+pub record Explainable (t buffer : List ℕ) (x : ℕ) : Type 0 where
+  pub table : checkTable t ≡ accepted
+  pub room : length t ≤ length buffer
+  pub row : x < rows t
+  pub reads : isRead (look t x) ≡ true
+
+-- a table whose head passes, and one of its rows
+pub record There (t : List ℕ) (x : ℕ) : Type 0 where
+  pub head : first (headReasons t) ≡ 0
+  pub row : x < rows t

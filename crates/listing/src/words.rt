@@ -1,0 +1,148 @@
+// The lines of a list, written into a slice that the caller lends.
+use lines::put_line;
+use range::Range;
+use row::Row;
+use term::Met;
+use term::Reason;
+use term::Spans;
+use text::put_byte;
+use text::put_decimal;
+use text::put_word;
+ghost use Prim.Native.Nat.{_+_, _<_, _^_};
+ghost use mathlib.Core.List.{_++_};
+ghost use lib.ListN.{length};
+ghost use Rattle.text.specs.Text.{ascii, decimal, Put};
+ghost use Rattle.lines.specs.Lines.{line};
+ghost use Rattle.listing.specs.List.{rangeText, reasonText, readLine, storeLine, foundLine, standsLine};
+
+// Writes a word and a number.
+fn put_labelled(out: &mut [u8], at: usize, word: &[u8], v: u64) -> usize
+    requires { ⌜ at + length (now word) < 2 ^ 62 ⌝ }
+    ensures { λ r. ⌜ Put (now (out .entry)) at (now (word .entry) ++ decimal v) (length (now (word .entry)) + 20) (now (out .exit)) r ⌝ }
+{
+    let next = put_word(out, at, word);
+    put_decimal(out, next, v)
+}
+
+// Writes a word and a number, as the end of a line.
+fn put_last(out: &mut [u8], at: usize, word: &[u8], v: u64) -> usize
+    requires { ⌜ at + length (now word) < 2 ^ 62 ⌝ }
+    ensures { λ r. ⌜ Put (now (out .entry)) at (now (word .entry) ++ decimal v ++ ascii "\n") (length (now (word .entry)) + 21) (now (out .exit)) r ⌝ }
+{
+    let end = put_labelled(out, at, word, v);
+    put_byte(out, end, b'\n')
+}
+
+// Writes a range: the one place where a range is written.
+pub fn put_range(out: &mut [u8], at: usize, a: Range) -> usize
+    requires { ⌜ at < 2 ^ 61 ⌝ }
+    ensures { λ r. ⌜ Put (now (out .entry)) at (rangeText a) 42 (now (out .exit)) r ⌝ }
+{
+    let next = put_decimal(out, at, a.lo);
+    put_labelled(out, next, b"..", a.hi)
+}
+
+// Writes a word and a range.
+fn put_ranged(out: &mut [u8], at: usize, word: &[u8], a: Range) -> usize
+    requires { ⌜ at + length (now word) < 2 ^ 61 ⌝ }
+    ensures { λ r. ⌜ Put (now (out .entry)) at (now (word .entry) ++ rangeText a) (length (now (word .entry)) + 42) (now (out .exit)) r ⌝ }
+{
+    let next = put_word(out, at, word);
+    put_range(out, next, a)
+}
+
+// Writes the reason that two offsets give.
+fn put_offsets(out: &mut [u8], at: usize, p: u64, q: u64) -> usize
+    requires { ⌜ at < 2 ^ 60 ⌝ }
+    ensures { λ r. ⌜ Put (now (out .entry)) at (reasonText (Reason.Offsets p q)) 81 (now (out .exit)) r ⌝ }
+{
+    let next = put_labelled(out, at, b"different offsets on a shared base, ", p);
+    put_labelled(out, next, b" and ", q)
+}
+
+// Writes the reason that two ranges give.
+fn put_spans(out: &mut [u8], at: usize, spans: Spans) -> usize
+    requires { ⌜ at < 2 ^ 60 ⌝ }
+    ensures { λ r. ⌜ Put (now (out .entry)) at (reasonText (Reason.Separate spans)) 106 (now (out .exit)) r ⌝ }
+{
+    let next = put_ranged(out, at, b"separate ranges, ", spans.store);
+    put_ranged(out, next, b" and ", spans.read)
+}
+
+// Writes a reason.
+pub fn put_reason(out: &mut [u8], at: usize, why: Reason) -> usize
+    requires { ⌜ at < 2 ^ 60 ⌝ }
+    ensures { λ r. ⌜ Put (now (out .entry)) at (reasonText why) 106 (now (out .exit)) r ⌝ }
+{
+    match why {
+        Reason::SamePlace => put_word(out, at, b"same place"),
+        Reason::Offsets(p, q) => put_offsets(out, at, p, q),
+        Reason::Separate(spans) => put_spans(out, at, spans),
+        Reason::Undecided => put_word(out, at, b"undecided"),
+    }
+}
+
+// Writes the first line: READ row r, of array m at index i.
+pub fn put_read(out: &mut [u8], at: usize, r: usize, m: usize, i: usize) -> usize
+    requires { ⌜ at < 2 ^ 32 ⌝ }
+    ensures { λ e. ⌜ Put (now (out .entry)) at (readLine r m i) 82 (now (out .exit)) e ⌝ }
+{
+    let array = put_labelled(out, at, b"read ", r as u64);
+    let index = put_labelled(out, array, b": array ", m as u64);
+    put_last(out, index, b", index ", i as u64)
+}
+
+// Writes which store was compared, and the rows of the two indexes.
+fn put_indexes(out: &mut [u8], at: usize, store: usize, index: usize, i: usize) -> usize
+    requires { ⌜ at < 2 ^ 32 ⌝ }
+    ensures { λ r. ⌜ Put (now (out .entry)) at (ascii "store " ++ decimal store ++ ascii ": index " ++ decimal index ++ ascii " against " ++ decimal i) 83 (now (out .exit)) r ⌝ }
+{
+    let next = put_labelled(out, at, b"store ", store as u64);
+    let end = put_labelled(out, next, b": index ", index as u64);
+    put_labelled(out, end, b" against ", i as u64)
+}
+
+// Writes a reason, as the end of a line.
+fn put_why(out: &mut [u8], at: usize, why: Reason) -> usize
+    requires { ⌜ at < 2 ^ 33 ⌝ }
+    ensures { λ r. ⌜ Put (now (out .entry)) at (ascii ", " ++ reasonText why ++ ascii "\n") 109 (now (out .exit)) r ⌝ }
+{
+    let next = put_word(out, at, b", ");
+    let end = put_reason(out, next, why);
+    put_byte(out, end, b'\n')
+}
+
+// Writes the line of a store that was compared with index row i.
+pub fn put_store(out: &mut [u8], at: usize, i: usize, s: Met) -> usize
+    requires { ⌜ at < 2 ^ 32 ⌝ }
+    ensures { λ r. ⌜ Put (now (out .entry)) at (storeLine i s) 256 (now (out .exit)) r ⌝ }
+{
+    let why = s.why;
+    let next = put_indexes(out, at, s.store, s.index, i);
+    put_why(out, next, why)
+}
+
+// Writes that the walk found the element in row c.
+pub fn put_found(out: &mut [u8], at: usize, c: usize) -> usize
+    requires { ⌜ at < 2 ^ 32 ⌝ }
+    ensures { λ r. ⌜ Put (now (out .entry)) at (foundLine c) 40 (now (out .exit)) r ⌝ }
+{
+    put_last(out, at, b"found element ", c as u64)
+}
+
+// Writes that the read stands on array m.
+pub fn put_stands(out: &mut [u8], at: usize, m: usize) -> usize
+    requires { ⌜ at < 2 ^ 32 ⌝ }
+    ensures { λ r. ⌜ Put (now (out .entry)) at (standsLine m) 40 (now (out .exit)) r ⌝ }
+{
+    put_last(out, at, b"stands on array ", m as u64)
+}
+
+// Writes the last line: result row r, which is x.
+pub fn put_result(out: &mut [u8], at: usize, r: usize, x: Row) -> usize
+    requires { ⌜ at < 2 ^ 32 ⌝ }
+    ensures { λ e. ⌜ Put (now (out .entry)) at (ascii "result " ++ line r x) 154 (now (out .exit)) e ⌝ }
+{
+    let next = put_word(out, at, b"result ");
+    put_line(out, next, r, x)
+}

@@ -1,3 +1,0 @@
--- Laws of what is printed.
-pub mod Printed
-pub mod Examples

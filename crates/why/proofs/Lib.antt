@@ -1,0 +1,3 @@
+-- Laws of the argument.
+pub mod Numbers
+pub mod Examples

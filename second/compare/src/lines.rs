@@ -1,0 +1,128 @@
+//! A list read back from its bytes: the lines that docs/WHY.md sets, and no others.
+
+use second::{Ref, Width};
+
+#[derive(Clone, Copy, PartialEq, Eq)]
+pub enum Reason {
+    SamePlace,
+    SharedBase,
+    SeparateRanges,
+    Undecided,
+}
+
+/// With `#` for each number.
+pub const REASONS: [(Reason, &str); 4] = [
+    (Reason::SamePlace, "same place"),
+    (Reason::SharedBase, "different offsets on a shared base, # and #"),
+    (Reason::SeparateRanges, "separate ranges, #..# and #..#"),
+    (Reason::Undecided, "undecided"),
+];
+
+#[derive(Clone, Copy)]
+pub enum End {
+    Found,
+    OnUndecided,
+    OnNoStore,
+}
+
+pub const ENDS: [&str; 3] =
+    ["found element #", "stands on array #, a store undecided", "stands on array #, no store"];
+
+/// A store compared: the two indexes, the reason, and the numbers that it gives.
+pub struct Store {
+    index: Ref,
+    against: Ref,
+    pub reason: Reason,
+    says: Vec<u64>,
+}
+
+impl Store {
+    fn of(line: &Line) -> Option<Store> {
+        let given = line.form.strip_prefix("store #: index # against #, ")?;
+        let (reason, _) = *REASONS.iter().find(|(_, form)| *form == given)?;
+        let (index, against) = (line.numbers[1] as Ref, line.numbers[2] as Ref);
+        Some(Store { index, against, reason, says: line.numbers[3..].to_vec() })
+    }
+
+    fn true_of(&self, width: Width, words: &[u64]) -> bool {
+        let (store, read) = (words[self.index], words[self.against]);
+        match (self.reason, &self.says[..]) {
+            (Reason::SamePlace, []) => store == read,
+            (Reason::SharedBase, [p, q]) => p != q && width.sub(read, store) == width.sub(*q, *p),
+            (Reason::SeparateRanges, [low, high, other_low, other_high]) => {
+                (low..=high).contains(&&store)
+                    && (other_low..=other_high).contains(&&read)
+                    && (high < other_low || other_high < low)
+            }
+            (Reason::Undecided, []) => true,
+            _ => false,
+        }
+    }
+}
+
+pub struct List {
+    pub stores: Vec<Store>,
+    pub end: End,
+}
+
+impl List {
+    pub fn of(bytes: &[u8]) -> Option<List> {
+        let text = std::str::from_utf8(bytes).ok()?.strip_suffix('\n')?;
+        let lines: Vec<Line> = text.split('\n').map(Line::of).collect::<Option<_>>()?;
+        let [read, stores @ .., end, result] = &lines[..] else { return None };
+        if read.form != "read #: array #, index #" || result.form != "result # # # # # # #" {
+            return None;
+        }
+        let stores: Vec<Store> = stores.iter().map(Store::of).collect::<Option<_>>()?;
+        let passed =
+            |store: &Store| matches!(store.reason, Reason::SharedBase | Reason::SeparateRanges);
+        let last = stores.iter().position(|store| !passed(store));
+        if last.is_some_and(|last| last + 1 != stores.len()) {
+            return None;
+        }
+        let end = match (end.form.as_str(), last.map(|last| stores[last].reason)) {
+            ("found element #", Some(Reason::SamePlace)) => End::Found,
+            ("stands on array #", Some(Reason::Undecided)) => End::OnUndecided,
+            ("stands on array #", None) => End::OnNoStore,
+            _ => return None,
+        };
+        Some(List { stores, end })
+    }
+
+    /// Whether all that is said of the stores is true where the rows mean `words`.
+    pub fn true_of(&self, width: Width, words: &[u64]) -> bool {
+        self.stores.iter().all(|store| store.true_of(width, words))
+    }
+
+    pub fn most_bytes(&self) -> usize {
+        256 * self.stores.len() + 256
+    }
+}
+
+/// A line with `#` for each of its numbers, and the numbers.
+struct Line {
+    form: String,
+    numbers: Vec<u64>,
+}
+
+impl Line {
+    fn of(text: &str) -> Option<Line> {
+        let digits: Vec<&str> =
+            text.split(|c: char| !c.is_ascii_digit()).filter(|digits| !digits.is_empty()).collect();
+        let numbers: Vec<u64> =
+            digits.iter().map(|digits| digits.parse().ok()).collect::<Option<_>>()?;
+        // No leading zeros.
+        if numbers.iter().zip(&digits).any(|(number, digits)| number.to_string() != **digits) {
+            return None;
+        }
+        let mut form = String::new();
+        for c in text.chars() {
+            match c {
+                '0'..='9' if form.ends_with('#') => {}
+                '0'..='9' => form.push('#'),
+                other => form.push(other),
+            }
+        }
+        Some(Line { form, numbers })
+    }
+}
