@@ -12,7 +12,7 @@ use Rattle.simplify.specs.Answer.{isAccepted, answer, answered}
 use Rattle.simplify.specs.Run.{runVerdict, runAnswer, runResult}
 use Rattle.simplify.specs.Edit.{editVerdict, editAnswer, editTable, editKept}
 use Rattle.simplify.specs.Compare.{compareVerdict, compareResult}
-use Rattle.listing.specs.Why.{listOf, whyVerdict, isMeasured, whyAnswer, whyResult, whyList}
+use Rattle.explanation.specs.Why.{listOf, whyVerdict, isMeasured, whyAnswer, whyResult, whyList}
 
 module _ (t buffer : List ℕ) (refused : isAccepted (runVerdict t buffer) ≡ false) where
   pub run-changes-nothing : runResult t buffer ≡ buffer

@@ -7,8 +7,8 @@ use Rattle.simplify.specs.declared.Comparison.{Comparison}
 use Rattle.simplify.specs.Run.{Ran}
 use Rattle.simplify.specs.Edit.{Edited}
 use Rattle.simplify.specs.Compare.{Compared}
-use Rattle.listing.specs.declared.Listing.{Listing}
-use Rattle.listing.specs.Why.{Explained}
+use Rattle.explanation.specs.declared.Listing.{Listing}
+use Rattle.explanation.specs.Why.{Explained}
 
 pub run-determined : {t buffer : List ℕ} {a a′ : Answer} {left left′ : List ℕ} → Ran t buffer a left → Ran t buffer a′ left′ → (a ≡ a′) × (left ≡ left′)
 run-determined p q = (p .answer-is ∙ sym (q .answer-is), p .result-is ∙ sym (q .result-is))

@@ -37,7 +37,7 @@ use Rattle.simplify.specs.Answer.{modulus, LIMIT, isAccepted, answered}
 use Rattle.simplify.specs.Run.{runVerdict, runAnswer, runResult, freshRows}
 use Rattle.simplify.proofs.Granted.{run-granted, grant-run}
 use Rattle.listing.specs.List.{list, listFor}
-use Rattle.listing.specs.Why.{listOf, whyVerdict, isMeasured, whyAnswer, whyResult, whyList}
+use Rattle.explanation.specs.Why.{listOf, whyVerdict, isMeasured, whyAnswer, whyResult, whyList}
 use Rattle.listing.proofs.Short.{list-short}
 use Rattle.demands.specs.Own.{rowsIn}
 use Rattle.demands.proofs.Demand2.{formed, positive, rows-left}

@@ -22,7 +22,7 @@ use Rattle.simplify.specs.Answer.{isAccepted}
 use Rattle.simplify.specs.Run.{roomReasons}
 use Rattle.simplify.proofs.Verdicts.{is-accepted, given-number, given-after, rows-pass, rows-after, table-passes, head-numbered}
 use Rattle.simplify.proofs.Granted.{Roomy, roomy, room-numbered}
-use Rattle.listing.specs.Why.{listOf, rowReasons, readReasons, spaceReasons, whyVerdict}
+use Rattle.explanation.specs.Why.{listOf, rowReasons, readReasons, spaceReasons, whyVerdict}
 
 -- none of 1 to 7 and of 9 to 15 holds
 pub record Asked (t buffer : List ℕ) (x : ℕ) : Type 0 where

@@ -1,4 +1,2 @@
 -- What the contracts of this crate say.
 pub mod List
-pub mod Ready
-pub mod Why

@@ -1,15 +1,8 @@
-// Why a read moved: the list of its walk, as a person reads it.
-mod explaining;
-mod judging;
-mod walking;
+// The list of a walk, as a person reads it: docs/WHY.md sets its lines.
 mod words;
 
-pub use explaining::why;
-use simplify::Answer;
-
-// What is answered: the numbers of a fresh run, and the length of the list.
-#[repr(C)]
-pub struct Listing {
-    pub answer: Answer,
-    pub length: u64,
-}
+pub use words::put_found;
+pub use words::put_read;
+pub use words::put_result;
+pub use words::put_stands;
+pub use words::put_store;

@@ -1,11 +1,11 @@
 // The door for C and Rust: include/stezkoun.h declares these functions. A slice comes in as a pointer and a length.
 ghost use Rattle.simplify.specs.Run.{Ran};
 ghost use Rattle.simplify.specs.Edit.{Edited};
-ghost use Rattle.listing.specs.Why.{Explained};
+ghost use Rattle.explanation.specs.Why.{Explained};
 ghost use Rattle.stezkoun.specs.Door.{Told};
 ghost use Rattle.term.specs.Relation.{relationNumber};
 ghost use mathlib.Core.Path.{_≡_};
-use listing::Listing;
+use explanation::Listing;
 use simplify::Answer;
 use term::Relation;
 
@@ -72,5 +72,5 @@ pub extern "C" fn stezkoun_why(
 ) -> Listing
     ensures { λ answer. ⌜ Explained (now (table .entry)) (now (result .entry)) row (now (list .entry)) answer (now (result .exit)) (now (list .exit)) ⌝ }
 {
-    listing::why(table, result, row, list)
+    explanation::why(table, result, row, list)
 }

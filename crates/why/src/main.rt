@@ -37,7 +37,7 @@ fn explain(row: u64) {
     let size = io::read_full(STDIN_FILENO, &mut table);
     let mut result = [0u8; LARGEST];
     let mut list = [0u8; LONGEST];
-    let listing = listing::why(&table[..size], &mut result, row, &mut list);
+    let listing = explanation::why(&table[..size], &mut result, row, &mut list);
     let answer = listing.answer;
     if answer.refusal != 0 {
         print_refusal(answer.refusal, answer.row);

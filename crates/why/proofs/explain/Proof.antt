@@ -1,4 +1,4 @@
-use Rattle.listing.proofs.Fits.{list-fits}
+use Rattle.explanation.proofs.Fits.{list-fits}
 use borrow.Author.Needs.{needs}
 use Rattle.why.proofs.explain.Statement.{statement}
 use Rattle.why.proofs.explain.Tie as tie

@@ -1,0 +1,80 @@
+-- The list of one read: what its parts ask, and that its lines are the list.
+use Prim.Native.Nat.{ℕ, suc, _+_, _*_, _^_, _≤_, _<_}
+use native.Mathlib.Nat.{le-refl}
+use native.Mathlib.Omega.{arith}
+use mathlib.Core.Path.{_≡_, refl, sym, ap, _∙_}
+use mathlib.Core.Bool.{true, true≢false}
+use mathlib.Core.List.{List, _++_}
+use lib.ListN.{length}
+use Rattle.range.specs.Store.{kept}
+use Rattle.row.specs.declared.Row.{Row}
+use Rattle.row.specs.Names.{LENGTH, place}
+use Rattle.row.specs.Bytes.{rowAt, Decoded}
+use Rattle.rules.specs.declared.relation.Index.{Index}
+use Rattle.rules.specs.Ready.{NamesBelow, Reached, Standing, Sought}
+use Rattle.rules.proofs.Reach.{row-room, row-reached}
+use Rattle.rules.proofs.Terms.{term-case}
+use Rattle.simplify.specs.Answer.{LIMIT}
+use Rattle.term.specs.Term.{Term, const, var, shift, sum, diff, neg, read, fresh, write, termOf, isRead}
+use Rattle.term.specs.Bytes.{look}
+use Rattle.term.specs.Walk.{walk}
+use Rattle.text.specs.Text.{ascii, Put}
+use Rattle.text.proofs.Puts.{put-then, put-length}
+use Rattle.lines.specs.Lines.{line}
+use Rattle.listing.specs.List.{readLine, resultLine, walkLines, list, listFor, most}
+use Rattle.explanation.specs.Ready.{Telling, Listable}
+
+-- a row that is a READ reads the array a at the index b
+read-row : (x : Row) → isRead (termOf x) ≡ true → termOf x ≡ read (x .a) (x .b)
+unfolding isRead
+read-row x =
+    term-case (λ (t : Term). isRead t ≡ true → t ≡ read (x .a) (x .b)) x
+    (λ e. absurd (true≢false (sym e))) (λ e. absurd (true≢false (sym e))) (λ e. absurd (true≢false (sym e))) (λ e. absurd (true≢false (sym e)))
+    (λ e. absurd (true≢false (sym e))) (λ e. absurd (true≢false (sym e))) (λ e. absurd (true≢false (sym e))) (λ e. refl)
+    (λ e. absurd (true≢false (sym e))) (λ k e. absurd (true≢false (sym e)))
+
+module _ (T R S l : List ℕ) (r : ℕ) (given : Listable T R r) {x : Row} (row : Decoded T r x) where
+  term-is : look T r ≡ termOf x
+  unfolding look
+  term-is = ap termOf (sym (row .is))
+
+  reads : look T r ≡ read (x .a) (x .b)
+  reads = term-is ∙ read-row x (rw term-is at (given .reads))
+
+  names : NamesBelow r (read (x .a) (x .b))
+  names = rw reads at (given .names)
+
+  pub list-index : Reached R (x .b)
+  list-index = row-reached R (suc r) (x .b) (given .rows) (omega (arith, names .1))
+
+  standing : Standing R r
+  unfolding place
+  standing = record {
+    few = omega (arith, given .rows .few);
+    room = omega (arith, given .rows .room);
+    names = λ y h. given .rows .names y (omega arith);
+  }
+
+  pub list-result : place r + LENGTH ≤ length R
+  list-result = row-room R (suc r) r (given .rows) (le-refl (suc r))
+
+  module _ {m₁ : List ℕ} {next : ℕ} (head : Put l 0 (readLine r (x .a) (x .b)) 82 m₁ next) where
+    pub list-walks : {j : Index} → Sought (look R) (kept S) (x .b) j → Telling R S next LIMIT r (x .b) j (x .a)
+    list-walks sought = record {
+      walking = record { rows = standing; index = sought; below = names .0 };
+      early = omega (arith, head .few);
+      few = le-refl LIMIT;
+    }
+
+    module _ {m₂ : List ℕ} {end : ℕ} (walked : Put m₁ next (walkLines (look R) (kept S) (x .b) (walk (look R) (kept S) (x .b) LIMIT (x .a))) (256 * LIMIT + 40) m₂ end) where
+      pub list-early : end < 2 ^ 32
+      list-early = omega (arith, walked .few, head .few)
+
+      pub list-length : {m₃ some : List ℕ} {k e : ℕ} → Put m₂ end some k m₃ e → length m₃ ≡ length l
+      list-length p = put-length p ∙ put-length walked ∙ put-length head
+
+      pub list-done : {y : Row} {m₃ : List ℕ} {e : ℕ} → Decoded R r y → Put m₂ end (ascii "result " ++ line r y) 154 m₃ e
+          → Put l 0 (listFor LIMIT (look R) (kept S) r (rowAt R r) (look T r)) (most (LIMIT + 1)) m₃ e
+      unfolding listFor list resultLine
+      list-done y-is last =
+          rw (reads, ← y-is .is) (put-then {i = 256 * LIMIT + 122} (put-then head walked (le-refl _)) last (omega arith))

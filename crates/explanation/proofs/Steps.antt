@@ -1,0 +1,196 @@
+-- The lines of a walk, step by step: what is written and what is left to write are the lines of the whole walk.
+use Prim.Native.Nat.{ℕ, suc, _+_, _-_, _*_, _^_, _≤_, _<_}
+use native.Mathlib.Omega.{arith}
+use mathlib.Core.Path.{_≡_, refl, sym, ap, _∙_}
+use mathlib.Core.List.{List, [], _∷_, _++_, append-assoc, append-nil}
+use lib.ListN.{length}
+use Rattle.range.specs.declared.Range.{Range}
+use Rattle.range.specs.Store.{kept}
+use Rattle.row.specs.declared.Row.{Row}
+use Rattle.row.specs.Names.{WRITE, LENGTH, place}
+use Rattle.row.specs.Bytes.{Decoded}
+use Rattle.rules.specs.declared.relation.Index.{Index}
+use Rattle.rules.specs.Ready.{NamesBelow, Walking, Comparing}
+use Rattle.rules.proofs.Reach.{row-room}
+use Rattle.rules.proofs.Stores.{NoStore, no-store, store-at, store-compared}
+use Rattle.term.specs.declared.Met.{Met}
+use Rattle.term.specs.declared.Reason.{Reason}
+use Rattle.term.specs.declared.Relation.{Relation}
+use Rattle.term.specs.declared.Relation.the-variants.{Same, Apart, Unknown}
+use Rattle.term.specs.Term.{Term, const, var, shift, sum, diff, neg, read, fresh, write}
+use Rattle.term.specs.Bytes.{look}
+use Rattle.term.specs.Walk.{Walk, found, passed, undecided, ended, step, walkAt, walk}
+use Rattle.term.specs.Relation.{related}
+use Rattle.term.specs.Reason.{reason, knownBy, indexOf, meets, met}
+use Rattle.term.proofs.Reasons.{related-reason}
+use Rattle.text.specs.Text.{Put}
+use Rattle.text.proofs.Puts.{put-none, put-then, put-length}
+use Rattle.listing.specs.List.{storeLine, storeLines, foundLine, standsLine, endLine, walkLines}
+use Rattle.explanation.specs.Ready.{Telling}
+
+-- ---- over lookups
+
+module _ (f : ℕ → Term) (g : ℕ → Range) (i : ℕ) where
+  abbrev lines : ℕ → ℕ → List ℕ
+  lines left m = walkLines f g i (walk f g i left m)
+
+  pub none-left : (m : ℕ) → lines 0 m ≡ standsLine m
+  unfolding walkLines walk met storeLines endLine
+  none-left m = refl
+
+  -- at a row that is no store
+  at-none : (m : ℕ) (on : ℕ → Walk) (t : Term) → NoStore t → walkLines f g i (walkAt f g i m on t) ≡ standsLine m
+  unfolding walkLines walkAt met storeLines endLine
+  at-none m on (const k) h = refl
+  at-none m on (var name k u) h = refl
+  at-none m on (shift a k) h = refl
+  at-none m on (sum a b k) h = refl
+  at-none m on (diff a b k) h = refl
+  at-none m on (neg a k) h = refl
+  at-none m on (read a b) h = refl
+  at-none m on fresh h = refl
+  at-none m on (write a b c) h = absurd h
+
+  pub no-store-lines : (left m : ℕ) → NoStore (f m) → lines (suc left) m ≡ standsLine m
+  unfolding walk
+  no-store-lines left m h = at-none m (walk f g i left) (f m) h
+
+  -- at a store
+  module _ (left m a b c : ℕ) (is : f m ≡ write a b c) (why : Reason) (told : why ≡ reason f g b i) where
+    abbrev here : Met
+    here = record { store = m; index = b; why = why }
+
+    meets-here : meets f g i m ≡ here
+    unfolding meets indexOf
+    meets-here = rw (is, told)
+
+    walks : lines (suc left) m ≡ walkLines f g i (step m a c (walk f g i left) (knownBy why))
+    unfolding walk walkAt
+    walks = rw (is, told, ← related-reason f g b i)
+
+    known-as : (k : Relation) → knownBy why ≡ k → lines (suc left) m ≡ walkLines f g i (step m a c (walk f g i left) k)
+    known-as k e = walks ∙ ap (λ (u : Relation). walkLines f g i (step m a c (walk f g i left) u)) e
+
+    pub lines-found : knownBy why ≡ Same → lines (suc left) m ≡ storeLine i here ++ foundLine c
+    unfolding step walkLines met storeLines endLine
+    lines-found e =
+        known-as Same e ∙
+        ap (λ (l : List ℕ). l ++ foundLine c) (append-nil (storeLine i (meets f g i m))) ∙ ap (λ (s : Met). storeLine i s ++ foundLine c) meets-here
+
+    pub lines-stopped : knownBy why ≡ Unknown → lines (suc left) m ≡ storeLine i here ++ standsLine m
+    unfolding step walkLines met storeLines endLine
+    lines-stopped e =
+        known-as Unknown e ∙
+        ap (λ (l : List ℕ). l ++ standsLine m) (append-nil (storeLine i (meets f g i m))) ∙ ap (λ (s : Met). storeLine i s ++ standsLine m) meets-here
+
+    pub lines-passed : knownBy why ≡ Apart → lines (suc left) m ≡ storeLine i here ++ lines left a
+    unfolding step walkLines met storeLines endLine
+    lines-passed e =
+        known-as Apart e ∙
+        append-assoc (storeLine i (meets f g i m)) (storeLines i (met f g i (walk f g i left a))) (endLine (walk f g i left a)) ∙
+        ap (λ (s : Met). storeLine i s ++ walkLines f g i (walk f g i left a)) meets-here
+
+-- ---- the loop
+
+-- at array row n, with `compared` stores behind, whose lines are `done`
+pub record Told (R S l : List ℕ) (at limit i m : ℕ) (r : ℕ) (now : List ℕ) (next n compared : ℕ) : Type 0 where
+  pub done : List ℕ
+  pub put : Put l at done (256 * compared) now next
+  pub rest : done ++ walkLines (look R) (kept S) i (walk (look R) (kept S) i (limit - compared) n) ≡ walkLines (look R) (kept S) i (walk (look R) (kept S) i limit m)
+  pub below : n < r
+  pub few : compared ≤ limit
+
+module _ (R S l : List ℕ) (at limit r i : ℕ) (j : Index) (m : ℕ) (given : Telling R S at limit r i j m) where
+  abbrev text : List ℕ
+  text = walkLines (look R) (kept S) i (walk (look R) (kept S) i limit m)
+
+  pub tell-begins : Told R S l at limit i m r l at m 0
+  tell-begins = record {
+    done = [];
+    put = put-none l at;
+    rest = ap (λ (k : ℕ). walkLines (look R) (kept S) i (walk (look R) (kept S) i k m)) (omega arith);
+    below = given .walking .below;
+    few = omega arith;
+  }
+
+  module _ {now : List ℕ} {next n compared : ℕ} (inv : Told R S l at limit i m r now next n compared) where
+    pub tell-walks : Walking R S r i j n
+    tell-walks = record { rows = given .walking .rows; index = given .walking .index; below = inv .below }
+
+    pub tell-decodes : place n + LENGTH ≤ length R
+    tell-decodes = row-room R r n (given .walking .rows) (inv .below)
+
+    pub tell-early : next < 2 ^ 32
+    tell-early = omega (arith, inv .put .few, inv .few, given .early, given .few)
+
+    pub tell-length : {now′ some : List ℕ} {k e : ℕ} → Put now next some k now′ e → length now′ ≡ length l
+    tell-length p = put-length p ∙ put-length (inv .put)
+
+    -- the last line
+    finish : {now′ : List ℕ} {e : ℕ} (last : List ℕ) → walkLines (look R) (kept S) i (walk (look R) (kept S) i (limit - compared) n) ≡ last
+        → Put now next last 40 now′ e → Put l at text (256 * limit + 40) now′ e
+    finish last e p =
+        let whole : inv .done ++ last ≡ text = ap (λ (ys : List ℕ). inv .done ++ ys) (sym e) ∙ inv .rest in
+        rw (← whole) (put-then (inv .put) p (omega (arith, inv .few)))
+
+    pub tell-spent : {now′ : List ℕ} {e : ℕ} → limit ≤ compared → Put now next (standsLine n) 40 now′ e → Put l at text (256 * limit + 40) now′ e
+    tell-spent h p =
+        let none : limit - compared ≡ 0 = omega (arith, inv .few) in
+        finish (standsLine n) (rw none (none-left (look R) (kept S) i n)) p
+
+    module _ (more : compared < limit) {x : Row} (row : Decoded R n x) where
+      left : limit - compared ≡ suc (limit - (compared + 1))
+      left = omega arith
+
+      pub tell-ends : {now′ : List ℕ} {e : ℕ} → (x .kind ≡ WRITE → ⊥) → Put now next (standsLine n) 40 now′ e → Put l at text (256 * limit + 40) now′ e
+      tell-ends h p = finish (standsLine n) (rw left (no-store-lines (look R) (kept S) i (limit - (compared + 1)) n (no-store R n x row h))) p
+
+      module _ (kind : x .kind ≡ WRITE) where
+        pub tell-compares : Comparing R S (x .b) i j
+        tell-compares = store-compared R n x row S r i j tell-walks kind
+
+        module _ {why : Reason} (told : why ≡ reason (look R) (kept S) (x .b) i) {now₂ : List ℕ} {next₂ : ℕ}
+            (line : Put now next (storeLine i (record { store = n; index = x .b; why = why })) 256 now₂ next₂) where
+          pub tell-early-2 : next₂ < 2 ^ 32
+          tell-early-2 = omega (arith, line .few, inv .put .few, inv .few, given .early, given .few)
+
+          pub tell-length-2 : {now′ some : List ℕ} {k e : ℕ} → Put now₂ next₂ some k now′ e → length now′ ≡ length l
+          tell-length-2 p = put-length p ∙ put-length line ∙ put-length (inv .put)
+
+          -- the store's line, and the last one
+          finish-2 : {now′ : List ℕ} {e : ℕ} (last : List ℕ)
+              → walkLines (look R) (kept S) i (walk (look R) (kept S) i (suc (limit - (compared + 1))) n) ≡ storeLine i (record { store = n; index = x .b; why = why }) ++ last
+              → Put now₂ next₂ last 40 now′ e → Put l at text (256 * limit + 40) now′ e
+          finish-2 last e p =
+              let whole : inv .done ++ storeLine i (record { store = n; index = x .b; why = why }) ++ last ≡ text =
+              append-assoc (inv .done) _ last ∙ ap (λ (ys : List ℕ). inv .done ++ ys) (sym e ∙ rw left) ∙ inv .rest in
+              rw (← whole) (put-then {i = 256 * (compared + 1)} (put-then (inv .put) line (omega arith)) p (omega (arith, inv .few)))
+
+          module _ {k : Relation} (known : k ≡ knownBy why) where
+            pub tell-finds : {now′ : List ℕ} {e : ℕ} → k ≡ Same → Put now₂ next₂ (foundLine (x .c)) 40 now′ e → Put l at text (256 * limit + 40) now′ e
+            tell-finds z p =
+                finish-2 (foundLine (x .c))
+                (lines-found (look R) (kept S) i (limit - (compared + 1)) n (x .a) (x .b) (x .c) (store-at R n x row kind) why told (sym known ∙ z)) p
+
+            pub tell-stops : {now′ : List ℕ} {e : ℕ} → k ≡ Unknown → Put now₂ next₂ (standsLine n) 40 now′ e → Put l at text (256 * limit + 40) now′ e
+            tell-stops z p =
+                finish-2 (standsLine n)
+                (lines-stopped (look R) (kept S) i (limit - (compared + 1)) n (x .a) (x .b) (x .c) (store-at R n x row kind) why told (sym known ∙ z)) p
+
+            array-below : x .a < n
+            array-below =
+                let named : NamesBelow n (write (x .a) (x .b) (x .c)) = rw (store-at R n x row kind) at (given .walking .rows .names n (inv .below)) in
+                named .0
+
+            pub tell-passes : k ≡ Apart → Told R S l at limit i m r now₂ next₂ (x .a) (compared + 1)
+            tell-passes z = record {
+              done = inv .done ++ storeLine i (record { store = n; index = x .b; why = why });
+              put = put-then (inv .put) line (omega arith);
+              rest =
+                  append-assoc (inv .done) _ _ ∙
+                  ap (λ (ys : List ℕ). inv .done ++ ys)
+                  (sym (lines-passed (look R) (kept S) i (limit - (compared + 1)) n (x .a) (x .b) (x .c) (store-at R n x row kind) why told (sym known ∙ z)) ∙ rw left) ∙
+                  inv .rest;
+              below = omega (arith, array-below, inv .below);
+              few = omega arith;
+            }

@@ -1,0 +1,81 @@
+// The list of one read.
+ghost use Prim.Native.Nat.{_+_, _*_};
+ghost use Rattle.range.specs.Store.{kept};
+ghost use Rattle.row.specs.Bytes.{rowAt};
+ghost use Rattle.simplify.specs.Answer.{LIMIT};
+ghost use Rattle.term.specs.Bytes.{look};
+ghost use Rattle.term.specs.Walk.{walk};
+ghost use Rattle.text.specs.Text.{Put};
+ghost use Rattle.listing.specs.List.{walkLines, listFor, most};
+ghost use Rattle.explanation.specs.Ready.{Telling, Listable};
+use listing::put_found;
+use listing::put_read;
+use listing::put_result;
+use listing::put_stands;
+use listing::put_store;
+use row::Row;
+use rules::Index;
+use term::Met;
+use term::Relation;
+
+// The stores that a read compares at most.
+const LIMIT: usize = 1024;
+
+// Writes a line for each store that the walk for index row i compares, from array row m on, and where the walk ends.
+fn put_walk(
+    out: &mut [u8],
+    at: usize,
+    result: &[u8],
+    store: &[u64; 2048],
+    limit: usize,
+    r: usize,
+    i: usize,
+    j: Index,
+    m: usize,
+) -> usize
+    requires { ⌜ Telling (now result) (now store) at limit r i j m ⌝ }
+    ensures { λ e. ⌜ Put (now (out .entry)) at (walkLines (look (now (result .entry))) (kept (now (store .entry))) i (walk (look (now (result .entry))) (kept (now (store .entry))) i limit m)) (256 * limit + 40) (now (out .exit)) e ⌝ }
+{
+    let mut next = at;
+    let mut n = m;
+    let mut compared = 0;
+    while compared < limit {
+        let x = Row::decode(result, n);
+        if x.kind != Row::WRITE {
+            return put_stands(out, next, n);
+        }
+        let b = x.b;
+        let why = rules::reason(result, store, b, i, j);
+        next = put_store(
+            out,
+            next,
+            i,
+            Met {
+                store: n,
+                index: b,
+                why: why,
+            },
+        );
+        match rules::known_by(why) {
+            Relation::Same => return put_found(out, next, x.c),
+            Relation::Apart => n = x.a,
+            Relation::Unknown => return put_stands(out, next, n),
+        }
+        compared += 1;
+    }
+    put_stands(out, next, n)
+}
+
+// Writes the list of READ row r of the table.
+pub fn put_list(out: &mut [u8], table: &[u8], result: &[u8], store: &[u64; 2048], r: usize) -> usize
+    requires { ⌜ Listable (now table) (now result) r ⌝ }
+    ensures { λ e. ⌜ Put (now (out .entry)) 0 (listFor LIMIT (look (now (result .entry))) (kept (now (store .entry))) r (rowAt (now (result .entry)) r) (look (now (table .entry)) r)) (most (LIMIT + 1)) (now (out .exit)) e ⌝ }
+{
+    let x = Row::decode(table, r);
+    let m = x.a;
+    let i = x.b;
+    let next = put_read(out, 0, r, m, i);
+    let j = rules::index_at(result, store, i);
+    let end = put_walk(out, next, result, store, LIMIT, r, i, j, m);
+    put_result(out, end, r, Row::decode(result, r))
+}
