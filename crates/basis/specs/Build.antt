@@ -1,6 +1,6 @@
 -- One way to build upwards: row after row, each made from what the rows below it have become.
 use Prim.Native.Nat.{ℕ, zero, suc}
-use mathlib.Core.Bool.{Bool, cond}
+use mathlib.Core.Bool.{cond}
 use lib.Dec.{eqb}
 
 module _ {A : Type 0} where

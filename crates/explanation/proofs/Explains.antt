@@ -1,6 +1,6 @@
 -- The answer to a question that passes 1 to 17: what its parts ask, and that what they leave is what the promise says.
-use Prim.Native.Nat.{ℕ, suc, _+_, _*_, _^_, _≤_, _<_}
-use native.Mathlib.Nat.{le-refl, zero-add}
+use Prim.Native.Nat.{ℕ, _+_, _^_, _≤_, _<_}
+use native.Mathlib.Nat.{zero-add}
 use native.Mathlib.Omega.{arith}
 use mathlib.Core.Path.{_≡_, refl, sym, ap, ap₂, subst, _∙_}
 use mathlib.Core.Bool.{true}
@@ -10,17 +10,16 @@ use lib.Seq.{sets, length-sets}
 use lib.Pow.{pow-mono, pow-pos}
 use Rattle.range.specs.Store.{kept}
 use Rattle.row.specs.declared.Row.{Row}
-use Rattle.row.specs.Names.{HEADER, LENGTH, place}
+use Rattle.row.specs.Names.{HEADER, place}
 use Rattle.row.specs.Bytes.{rowAt, Read, Small}
 use Rattle.row.proofs.Places.{header-below, room-in}
-use Rattle.rules.specs.Ready.{NamesBelow, Standing}
-use Rattle.table.specs.Refusals.{MOST, width, rows}
+use Rattle.rules.specs.Ready.{NamesBelow}
+use Rattle.table.specs.Refusals.{MOST, LARGEST, width, rows}
 use Rattle.table.specs.Accepted.{Accepted}
 use Rattle.table.proofs.Accepts.{accepted-gives}
 use Rattle.term.specs.Term.{Term, const, var, shift, sum, diff, neg, read, fresh, write, rowOf}
 use Rattle.term.specs.Relation.{rangeOf}
-use Rattle.term.specs.Walk.{walk}
-use Rattle.term.specs.WellFormed.{Names, WellFormed}
+use Rattle.term.specs.WellFormed.{WellFormed}
 use Rattle.term.specs.Bytes.{look}
 use Rattle.term.proofs.Accepted.{accepted-formed, accepted-unnamed}
 use Rattle.term.proofs.Looked.{small-term}
@@ -32,7 +31,7 @@ use Rattle.simplify.specs.Copy.{Rooms}
 use Rattle.simplify.specs.Fresh.{CanFresh, Freshly}
 use Rattle.simplify.specs.Run.{freshRows, freshBytes}
 use Rattle.explanation.specs.declared.Listing.{Listing}
-use Rattle.listing.specs.List.{readLine, resultLine, walkLines, list, listFor, most}
+use Rattle.listing.specs.List.{readLine, resultLine, list, listFor, most}
 use Rattle.explanation.specs.Ready.{Listable, Explainable}
 use Rattle.explanation.specs.Why.{listOf, listing, Explained}
 use Rattle.explanation.proofs.Granted.{explained-short, explained-fits}
@@ -46,11 +45,11 @@ module _ (t buffer : List ℕ) (x : ℕ) (can : Explainable t buffer x) where
   pub explain-header : HEADER ≤ length t
   explain-header = rw (ok .head .size) (header-below (rows t))
 
-  small : length t ≤ 26630
+  small : length t ≤ LARGEST
   unfolding place
   small = omega (arith, ok .head .size, ok .head .few)
 
-  pub explain-saves : (space : List ℕ) → length space ≡ 26630 → Rooms buffer 0 (length t) space 0
+  pub explain-saves : (space : List ℕ) → length space ≡ LARGEST → Rooms buffer 0 (length t) space 0
   explain-saves space long = record { source = omega (arith, can .room); target = omega (arith, small, long) }
 
   pub explain-runs : (store : List ℕ) → length store ≡ 2048 → CanFresh t buffer store
@@ -128,10 +127,10 @@ module _ (t buffer : List ℕ) (x : ℕ) (can : Explainable t buffer x) where
       size-is = measured .next ∙ zero-add _ ∙ ap length list-is
 
       -- the old bytes are put back where the list does not fit
-      module _ (room : List ℕ) {saved : List ℕ} (roomy : length room ≡ 26630) (kept-bytes : saved ≡ sets room 0 (take (length t) (drop 0 buffer))) where
+      module _ (room : List ℕ) {saved : List ℕ} (roomy : length room ≡ LARGEST) (kept-bytes : saved ≡ sets room 0 (take (length t) (drop 0 buffer))) where
         pub explain-back : Rooms saved 0 (length t) left 0
         explain-back =
-            let saved-long : length saved ≡ 26630 = ap length kept-bytes ∙ length-sets room 0 (take (length t) (drop 0 buffer)) ∙ roomy in
+            let saved-long : length saved ≡ LARGEST = ap length kept-bytes ∙ length-sets room 0 (take (length t) (drop 0 buffer)) ∙ roomy in
             record { source = omega (arith, saved-long, small); target = omega (arith, long, can .room) }
 
         pub explain-short : {space back : List ℕ} {a : Listing} → length space < size → back ≡ sets left 0 (take (length t) (drop 0 saved)) → a ≡ listing 22 0 0 0 size

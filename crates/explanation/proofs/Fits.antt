@@ -5,7 +5,7 @@ use mathlib.Core.Path.{_≡_, refl, sym, ap, _∙_}
 use mathlib.Core.List.{List}
 use lib.Dec.{eqb}
 use lib.ListN.{length}
-use lib.Seq.{sets, length-sets}
+use lib.Seq.{length-sets}
 use borrow.Author.Tests.{ltb-false}
 use Rattle.basis.proofs.Pick.{pick-true, pick-case, or-true-left}
 use Rattle.basis.proofs.Reasons.{first-none}

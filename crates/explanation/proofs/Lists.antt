@@ -15,7 +15,7 @@ use Rattle.rules.specs.Ready.{NamesBelow, Reached, Standing, Sought}
 use Rattle.rules.proofs.Reach.{row-room, row-reached}
 use Rattle.rules.proofs.Terms.{term-case}
 use Rattle.simplify.specs.Answer.{LIMIT}
-use Rattle.term.specs.Term.{Term, const, var, shift, sum, diff, neg, read, fresh, write, termOf, isRead}
+use Rattle.term.specs.Term.{Term, read, termOf, isRead}
 use Rattle.term.specs.Bytes.{look}
 use Rattle.term.specs.Walk.{walk}
 use Rattle.text.specs.Text.{ascii, Put}

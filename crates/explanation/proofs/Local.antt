@@ -4,18 +4,15 @@ use native.Mathlib.Omega.{arith}
 use mathlib.Core.Path.{_≡_, refl, sym, ap, _∙_}
 use mathlib.Core.List.{List, _++_}
 use Rattle.range.specs.declared.Range.{Range}
-use Rattle.range.specs.Range.{disjoint}
-use Rattle.row.specs.declared.Row.{Row}
 use Rattle.rules.specs.Ready.{NamesBelow}
 use Rattle.rules.proofs.Stores.{NoStore}
-use Rattle.term.specs.declared.Met.{Met}
 use Rattle.term.specs.declared.Reason.{Reason}
 use Rattle.term.specs.declared.Reason.the-variants.{SamePlace, Offsets, Separate, Undecided}
 use Rattle.term.specs.Term.{Term, const, var, shift, sum, diff, neg, read, fresh, write}
-use Rattle.term.specs.Base.{base, offset, sameBase}
+use Rattle.term.specs.Base.{base, offset}
 use Rattle.term.specs.Walk.{walk}
 use Rattle.term.specs.Reason.{reason, knownBy}
-use Rattle.listing.specs.List.{storeLine, foundLine, standsLine, walkLines, list, listFor}
+use Rattle.listing.specs.List.{storeLine, walkLines}
 use Rattle.explanation.proofs.Steps.{none-left, no-store-lines, lines-found, lines-stopped, lines-passed}
 
 reason-local : (f f′ : ℕ → Term) (g g′ : ℕ → Range) (x y : ℕ) → f x ≡ f′ x → f y ≡ f′ y → g x ≡ g′ x → g y ≡ g′ y → reason f g x y ≡ reason f′ g′ x y

@@ -2,7 +2,7 @@
 use Prim.Native.Nat.{ℕ, suc, _+_, _-_, _*_, _^_, _≤_, _<_}
 use native.Mathlib.Omega.{arith}
 use mathlib.Core.Path.{_≡_, refl, sym, ap, _∙_}
-use mathlib.Core.List.{List, [], _∷_, _++_, append-assoc, append-nil}
+use mathlib.Core.List.{List, [], _++_, append-assoc, append-nil}
 use lib.ListN.{length}
 use Rattle.range.specs.declared.Range.{Range}
 use Rattle.range.specs.Store.{kept}
@@ -19,8 +19,7 @@ use Rattle.term.specs.declared.Relation.{Relation}
 use Rattle.term.specs.declared.Relation.the-variants.{Same, Apart, Unknown}
 use Rattle.term.specs.Term.{Term, const, var, shift, sum, diff, neg, read, fresh, write}
 use Rattle.term.specs.Bytes.{look}
-use Rattle.term.specs.Walk.{Walk, found, passed, undecided, ended, step, walkAt, walk}
-use Rattle.term.specs.Relation.{related}
+use Rattle.term.specs.Walk.{Walk, step, walkAt, walk}
 use Rattle.term.specs.Reason.{reason, knownBy, indexOf, meets, met}
 use Rattle.term.proofs.Reasons.{related-reason}
 use Rattle.text.specs.Text.{Put}

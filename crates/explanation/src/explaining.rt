@@ -5,11 +5,7 @@ ghost use Rattle.explanation.specs.Ready.{Explainable};
 use super::judging;
 use super::walking::put_list;
 use crate::Listing;
-use row::Row;
 use simplify::Answer;
-
-// bytes of the largest table
-const LARGEST: usize = Row::HEADER + Row::LENGTH * table::MOST;
 
 // The answer of a refusal, with the length of the list where it is known.
 fn not_listed(number: u64, row: u64, length: u64) -> Listing
@@ -26,7 +22,7 @@ fn explain(table: &[u8], result: &mut [u8], r: usize, list: &mut [u8]) -> Listin
     requires { ⌜ Explainable (now table) (now result) r ⌝ }
     ensures { λ answer. ⌜ Explained (now (table .entry)) (now (result .entry)) r (now (list .entry)) answer (now (result .exit)) (now (list .exit)) ⌝ }
 {
-    let mut saved = [0u8; LARGEST];
+    let mut saved = [0u8; table::LARGEST];
     simplify::copy(result, 0, table.len(), &mut saved, 0);
     let mut store = [0u64; 2048];
     let removed = simplify::fresh(table, result, &mut store);

@@ -15,11 +15,9 @@ use listing::put_stands;
 use listing::put_store;
 use row::Row;
 use rules::Index;
+use simplify::LIMIT;
 use term::Met;
 use term::Relation;
-
-// The stores that a read compares at most.
-const LIMIT: usize = 1024;
 
 // Writes a line for each store that the walk for index row i compares, from array row m on, and where the walk ends.
 fn put_walk(

@@ -1,6 +1,6 @@
 -- Ranges of words below M: document 01, "Ranges". The sums compared are whole numbers, never wrapped ones.
 -- Other crates know a range by these names and their laws alone.
-use Prim.Native.Nat.{ℕ, suc, _+_, _-_, _≤_, _<_}
+use Prim.Native.Nat.{ℕ, _+_, _-_, _≤_, _<_}
 use mathlib.Core.Bool.{Bool, cond, _&&_, _||_}
 use lib.Dec.{leb, ltb, eqb}
 use Rattle.range.specs.declared.Range.{Range}

@@ -2,10 +2,7 @@
 use Prim.Native.Nat.{ℕ, _≤_}
 use mathlib.Core.Path.{_≡_}
 use Rattle.row.specs.Names.{place}
-
--- bytes of the largest table
-abbrev pub LARGEST : ℕ
-LARGEST = 26630
+use Rattle.table.specs.Refusals.{LARGEST}
 
 -- n is the row count of a table of so many bytes, and whatever their number, as many rows stand in the largest table
 pub record Counted (size n : ℕ) : Type 0 where

@@ -2,15 +2,14 @@
 use libc::STDIN_FILENO;
 use libc::STDOUT_FILENO;
 use row::Row;
+use table::LARGEST;
 ghost use mathlib.Core.Path.{_≡_};
 ghost use Prim.Native.Nat.{_+_, _≤_, min};
 ghost use lib.ListN.{length};
 ghost use Rattle.row.specs.Names.{place};
 ghost use Rattle.lines.specs.Lines.{Chunk};
-ghost use Rattle.show.specs.Shown.{LARGEST, Counted};
-
-// bytes of the largest table
-const LARGEST: usize = Row::HEADER + Row::LENGTH * table::MOST;
+ghost use Rattle.table.specs.Refusals.{LARGEST};
+ghost use Rattle.show.specs.Shown.{Counted};
 
 // rows that one call of the system prints
 const CHUNK: usize = 32;

@@ -12,6 +12,7 @@ pub use comparing::compare;
 pub use copying::copy;
 pub use editing::edit;
 pub use judge::room;
+pub use renew::LIMIT;
 pub use running::fresh;
 pub use running::refused;
 pub use running::run;

@@ -10,7 +10,7 @@ use crate::marks::one_if;
 use row::Row;
 
 // The stores that a read compares at most.
-const LIMIT: usize = 1024;
+pub const LIMIT: usize = 1024;
 
 // Whether row x, which is there, is a READ.
 fn is_read(t: &[u8], x: usize) -> bool

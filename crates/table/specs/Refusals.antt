@@ -1,11 +1,11 @@
 -- The table of refusals, line by line, for a table alone: 1 to 5 and 9 to 15 (document 01, "What is answered").
-use Prim.Native.Nat.{ℕ, zero, suc, _^_}
+use Prim.Native.Nat.{ℕ, zero, suc, _+_, _*_, _^_}
 use mathlib.Core.Bool.{Bool, cond, not, _&&_, _||_}
 use mathlib.Core.List.{List, [], _∷_}
 use lib.ListN.{length, getD}
 use lib.Dec.{leb, ltb, eqb}
 use Rattle.basis.specs.Reason.{Reason, _when_, first}
-use Rattle.row.specs.Names.{HEADER, VAR, place}
+use Rattle.row.specs.Names.{HEADER, LENGTH, VAR, place}
 use Rattle.row.specs.Bytes.{byte, number, rowAt, markWrong}
 use Rattle.table.specs.declared.Uses.{Uses}
 use Rattle.table.specs.declared.Verdict.{Verdict}
@@ -22,6 +22,10 @@ rows t = number 2 t 4
 -- the largest row count
 abbrev pub MOST : ℕ
 MOST = 1024
+
+-- bytes of the largest table
+abbrev pub LARGEST : ℕ
+LARGEST = HEADER + LENGTH * MOST
 
 unfoldable pub headWrong : List ℕ → Bool
 headWrong t = not (eqb (byte t 0) 0x46) || not (eqb (byte t 1) 0x54) || not (eqb (byte t 3) 0)

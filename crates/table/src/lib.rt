@@ -5,8 +5,8 @@ ghost use mathlib.Core.Bool.{not, _&&_};
 ghost use lib.ListN.{length, take};
 ghost use lib.Dec.{leb, eqb};
 ghost use Rattle.basis.specs.Reason.{first};
-ghost use Rattle.row.specs.Names.{HEADER, LENGTH, place};
-ghost use Rattle.row.specs.Bytes.{rowAt, Read};
+ghost use Rattle.row.specs.Names.{HEADER, place};
+ghost use Rattle.row.specs.Bytes.{Read};
 ghost use Rattle.table.specs.Uses.{uses, sortOf, usesOf, ARRAY};
 ghost use Rattle.table.specs.Refusals.{
   width,
@@ -77,6 +77,9 @@ impl Uses {
 
 // the largest row count
 pub const MOST: usize = 1024;
+
+// bytes of the largest table
+pub const LARGEST: usize = Row::HEADER + Row::LENGTH * MOST;
 
 // the largest width
 pub const WIDEST: u32 = 64;

@@ -17,7 +17,7 @@ use Rattle.row.proofs.Sets.{sets-same}
 use Rattle.row.proofs.Rows.{length-bytesOf, put-take, put-drop}
 use Rattle.term.specs.Term.{Term, rowOf}
 use Rattle.term.specs.Bytes.{putIf, putRows}
-use Rattle.term.proofs.Placed.{length-put-rows, put-rows-behind, put-if-take}
+use Rattle.term.proofs.Placed.{length-put-rows, put-rows-behind}
 
 -- the bytes of row x in a buffer
 unfoldable pub rowBytes : List ℕ → ℕ → List ℕ

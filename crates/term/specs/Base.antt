@@ -1,6 +1,6 @@
 -- Base and offset: document 01, "Normal form of a word". M is 2 ^ w.
 use Prim.Native.Nat.{ℕ}
-use mathlib.Core.Bool.{Bool, true, false, cond, _&&_}
+use mathlib.Core.Bool.{Bool, cond, _&&_}
 use lib.Dec.{eqb}
 use Rattle.row.specs.Names.{CONST, SHIFT, SUM, DIFF, NEG}
 use Rattle.term.specs.Term.{Term, const, var, shift, sum, diff, neg, read, fresh, write}

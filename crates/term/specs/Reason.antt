@@ -7,7 +7,6 @@ use Rattle.range.specs.declared.Range.{Range}
 use Rattle.range.specs.Range.{disjoint}
 use Rattle.term.specs.declared.Relation.{Relation}
 use Rattle.term.specs.declared.Relation.the-variants.{Same, Apart, Unknown}
-use Rattle.term.specs.declared.Spans.{Spans}
 use Rattle.term.specs.declared.Reason.{Reason}
 use Rattle.term.specs.declared.Reason.the-variants.{SamePlace, Offsets, Separate, Undecided}
 use Rattle.term.specs.declared.Met.{Met}

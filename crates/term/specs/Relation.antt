@@ -1,6 +1,6 @@
 -- Ranges of result rows, and what is known of two rows: document 01, "Ranges".
 use Prim.Native.Nat.{ℕ, zero, suc}
-use mathlib.Core.Bool.{Bool, cond, _&&_, _||_}
+use mathlib.Core.Bool.{cond, _&&_, _||_}
 use lib.Dec.{eqb}
 use Rattle.range.specs.declared.Range.{Range}
 use Rattle.range.specs.Range.{span, point, full, negation, disjoint}

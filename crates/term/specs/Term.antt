@@ -1,7 +1,7 @@
 -- A row as a term: a constructor for each kind, with the fields that the kind uses.
 use Prim.Native.Nat.{ℕ}
 use mathlib.Core.Bool.{Bool, true, false, _||_}
-use mathlib.Core.List.{List, [], _∷_}
+use mathlib.Core.List.{[], _∷_}
 use lib.ListN.{getD}
 use Rattle.row.specs.declared.Row.{Row}
 use Rattle.row.specs.Bytes.{row}

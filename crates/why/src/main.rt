@@ -7,12 +7,9 @@ use argument::Parsed;
 use argument::number;
 use libc::STDIN_FILENO;
 use libc::STDOUT_FILENO;
-use row::Row;
+use table::LARGEST;
 ghost use Prim.Native.Nat.{_≤_};
 ghost use lib.ListN.{length};
-
-// bytes of the largest table
-const LARGEST: usize = Row::HEADER + Row::LENGTH * table::MOST;
 
 // bytes of the longest list: 256 for each row below the last, and 256 more
 const LONGEST: usize = 256 * table::MOST;

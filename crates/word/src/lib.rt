@@ -1,6 +1,6 @@
 // Words of w bits, 1 to 64, each in a u64. The definitions are over the modulus 2 ^ w, so w = 64 is no case of its own there.
 ghost use mathlib.Core.Path.{_≡_};
-ghost use Prim.Native.Nat.{_+_, _-_, _%_, _^_, _<_, _≤_};
+ghost use Prim.Native.Nat.{_-_, _%_, _^_, _<_, _≤_};
 ghost use lib.Dec.{leb};
 ghost use Rattle.word.specs.Word.{plus, minus};
 

@@ -1,6 +1,7 @@
 use Prim.Native.Nat.{ℕ}
 use lib.ListN.{replicate, length-replicate}
 use borrow.Author.Needs.{needs}
+use Rattle.table.specs.Refusals.{LARGEST}
 use Rattle.explanation.proofs.Explains.{explain-saves, explain-lists, explain-back, explain-short, explain-header, explain-fits}
 use Rattle.explanation.proofs.explaining.explain.Statement.{statement}
 use Rattle.explanation.proofs.explaining.explain.Tie as tie
@@ -24,7 +25,7 @@ slice-aggregate-copy-2 : tie.Need-slice-aggregate-copy-2
 slice-aggregate-copy-2 c = search needs
 
 copy-requires-2 : tie.Need-copy-requires-2
-copy-requires-2 c κs = explain-back _ _ _ (c .before .before .before .before .before .before .before .before .before .before .before .before .before .before .before .before .before .before .before .before .pre) (c .before .before .before .before .before .before .before .before .before .before .fresh .ensures) (c .before .before .before .before .put-list .ensures) (replicate 26630 0) (length-replicate {A = ℕ} 26630 0) (c .before .before .before .before .before .before .before .before .before .before .before .before .before .before .copy .ensures)
+copy-requires-2 c κs = explain-back _ _ _ (c .before .before .before .before .before .before .before .before .before .before .before .before .before .before .before .before .before .before .before .before .pre) (c .before .before .before .before .before .before .before .before .before .before .fresh .ensures) (c .before .before .before .before .put-list .ensures) (replicate LARGEST 0) (length-replicate {A = ℕ} LARGEST 0) (c .before .before .before .before .before .before .before .before .before .before .before .before .before .before .copy .ensures)
 
 not-listed-requires : tie.Need-not-listed-requires
 not-listed-requires c κs = search needs
@@ -33,7 +34,7 @@ same-length : tie.Need-same-length
 same-length c = search needs
 
 returns : tie.Need-returns
-returns c = explain-short _ _ _ (c .before .before .before .before .before .before .before .before .before .before .before .before .before .before .before .before .before .before .before .before .before .before .before .before .pre) (c .before .before .before .before .before .before .before .before .before .before .before .before .before .before .fresh .ensures) (c .before .before .before .before .before .before .before .before .put-list .ensures) (replicate 26630 0) (length-replicate {A = ℕ} 26630 0) (c .before .before .before .before .before .before .before .before .before .before .before .before .before .before .before .before .before .before .copy .ensures) (c .before .before .before .before .before .before .if1 .taken) (c .before .before .before .copy2 .ensures) (c .not-listed .ensures)
+returns c = explain-short _ _ _ (c .before .before .before .before .before .before .before .before .before .before .before .before .before .before .before .before .before .before .before .before .before .before .before .before .pre) (c .before .before .before .before .before .before .before .before .before .before .before .before .before .before .fresh .ensures) (c .before .before .before .before .before .before .before .before .put-list .ensures) (replicate LARGEST 0) (length-replicate {A = ℕ} LARGEST 0) (c .before .before .before .before .before .before .before .before .before .before .before .before .before .before .before .before .before .before .copy .ensures) (c .before .before .before .before .before .before .if1 .taken) (c .before .before .before .copy2 .ensures) (c .not-listed .ensures)
 
 put-list-requires-2 : tie.Need-put-list-requires-2
 put-list-requires-2 c κs = explain-lists _ _ _ (c .before .before .before .before .before .before .before .before .before .before .before .before .before .before .before .before .before .before .before .before .before .pre) (c .before .before .before .before .before .before .before .before .before .before .before .fresh .ensures)
