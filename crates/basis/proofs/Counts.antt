@@ -10,10 +10,6 @@ use native.Mathlib.Decide.{decLt}
 use Rattle.basis.specs.Count.{countWhere, anyBelow}
 use Rattle.basis.proofs.Pick.{test-case, pick-case, or-true-left, or-true-right, or-false}
 
-pub count-zero : (test : ℕ → Bool) → countWhere test 0 ≡ 0
-unfolding countWhere
-count-zero test = refl
-
 -- one row more
 pub count-next : (test : ℕ → Bool) (n : ℕ) → countWhere test (n + 1) ≡ countWhere test n + cond (test n) 1 0
 unfolding countWhere

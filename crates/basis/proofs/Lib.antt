@@ -3,3 +3,4 @@ pub mod Pick
 pub mod Reasons
 pub mod Builds
 pub mod Counts
+pub mod Sets

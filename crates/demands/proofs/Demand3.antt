@@ -27,7 +27,8 @@ use Rattle.simplify.specs.Edit.{edited, editVerdict, editedRows, editedBytes, e
 use Rattle.simplify.proofs.Verdicts.{table-passes, head-same}
 use Rattle.simplify.proofs.Granted.{run-granted, grant-run, EditGranted, edit-granted}
 use Rattle.demands.specs.Own.{Own, Edits, none, one}
-use Rattle.demands.proofs.Fresh.{fresh-head, fresh-length, fresh-there, fresh-again}
+use Rattle.simplify.proofs.FreshRun.{fresh-length}
+use Rattle.demands.proofs.Fresh.{fresh-head, fresh-there, fresh-again}
 use Rattle.demands.proofs.EditIsRun.{edited-bytes}
 
 -- an accepted run leaves the fresh result, which is the table's own
@@ -38,7 +39,7 @@ run-leaves t buffer granted = pick-true (isAccepted (runVerdict t buffer)) _ _ g
 fresh-owned : (t buffer : List ℕ) → checkTable t ≡ accepted → length t ≤ length buffer → Own t (freshBytes t buffer)
 fresh-owned t buffer passes room =
     let ok : Accepted t = accepted-gives t passes in
-    let granted : isAccepted (runVerdict t (freshBytes t buffer)) ≡ true = grant-run t (freshBytes t buffer) passes (rw (fresh-length t buffer ok room) room) in
+    let granted : isAccepted (runVerdict t (freshBytes t buffer)) ≡ true = grant-run t (freshBytes t buffer) passes (rw (fresh-length t buffer) room) in
     record {
       accepted = granted;
       settled =

@@ -1,31 +1,24 @@
 -- What a fresh run leaves: the table's header, and the rows of its result, each in its place. A second run into it changes nothing.
-use Prim.Native.Nat.{ℕ, _+_, _≤_, _<_}
-use native.Mathlib.Nat.{zero-add}
+use Prim.Native.Nat.{ℕ, _≤_, _<_}
 use native.Mathlib.Omega.{arith}
 use mathlib.Core.Path.{_≡_, refl, ap, sym, _∙_}
 use mathlib.Core.Bool.{true, false}
 use mathlib.Core.List.{List}
-use lib.ListN.{length, take, drop}
-use lib.Seq.{sets, sets-eq, length-sets, length-take-le, take-at}
+use lib.ListN.{length, take}
+use lib.Seq.{sets, length-sets}
 use Rattle.row.specs.Names.{HEADER, place}
 use Rattle.row.specs.Bytes.{bytesOf}
 use Rattle.row.proofs.Places.{header-below}
-use Rattle.row.proofs.Sets.{sets-same}
+use Rattle.row.proofs.Sets.{sets-same, copied-there}
 use Rattle.table.specs.Refusals.{rows}
 use Rattle.table.specs.Accepted.{Accepted}
 use Rattle.term.specs.Term.{rowOf}
 use Rattle.term.specs.Bytes.{look, putRows}
-use Rattle.term.proofs.Placed.{length-put-rows, put-rows-head}
+use Rattle.term.proofs.Placed.{put-rows-head}
 use Rattle.term.proofs.There.{rowBytes, rows-there, rows-alike, none-touched}
 use Rattle.term.proofs.Outcome.{run-look}
 use Rattle.simplify.specs.Answer.{modulus, LIMIT}
 use Rattle.simplify.specs.Run.{freshRows, freshBytes}
-
--- a header copied is there
-pub head-copied : (t buffer : List ℕ) → HEADER ≤ length t → HEADER ≤ length buffer → take HEADER (sets buffer 0 (take HEADER t)) ≡ take HEADER t
-head-copied t buffer h room =
-    let long : length (take HEADER t) ≡ HEADER = length-take-le HEADER t h in
-    ap (take HEADER) (sets-eq (take HEADER t) buffer 0 (rw (long, zero-add) room)) ∙ take-at (take HEADER t) (drop (0 + length (take HEADER t)) buffer) HEADER long
 
 -- a header that is there already
 pub head-there : (t kept : List ℕ) → take HEADER kept ≡ take HEADER t → sets kept 0 (take HEADER t) ≡ kept
@@ -42,11 +35,7 @@ module _ (t buffer : List ℕ) (ok : Accepted t) (room : length t ≤ length buf
   unfolding freshBytes
   fresh-head =
       put-rows-head (λ x. true) (freshRows t) (rows t) (sets buffer 0 (take HEADER t)) ∙
-      head-copied t buffer header-fits (let h : HEADER ≤ length t = header-fits in omega arith)
-
-  pub fresh-length : length (freshBytes t buffer) ≡ length buffer
-  unfolding freshBytes
-  fresh-length = length-put-rows (λ x. true) (freshRows t) (rows t) (sets buffer 0 (take HEADER t)) ∙ length-sets buffer 0 (take HEADER t)
+      copied-there HEADER t buffer header-fits (let h : HEADER ≤ length t = header-fits in omega arith)
 
   -- each row of the fresh result stands there
   pub fresh-there : (x : ℕ) → x < rows t → rowBytes (freshBytes t buffer) x ≡ bytesOf (rowOf (freshRows t x))
@@ -60,7 +49,7 @@ module _ (t buffer : List ℕ) (ok : Accepted t) (room : length t ≤ length buf
   fresh-look x =
       rw size
       (run-look LIMIT t (sets buffer 0 (take HEADER t)) ok (rw length-sets (rw (← size) room))
-      (head-copied t buffer header-fits (let h : HEADER ≤ length t = header-fits in omega arith)) x)
+      (copied-there HEADER t buffer header-fits (let h : HEADER ≤ length t = header-fits in omega arith)) x)
 
 -- a buffer that has the header and the rows of a fresh result: a fresh run into it changes nothing
 pub fresh-again : (t kept : List ℕ) → take HEADER kept ≡ take HEADER t → ((x : ℕ) → x < rows t → rowBytes kept x ≡ bytesOf (rowOf (freshRows t x))) → freshBytes t kept ≡ kept

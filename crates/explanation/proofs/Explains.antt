@@ -28,15 +28,16 @@ use Rattle.term.proofs.WellFormed.{formed-below, result-formed, result-unnamed}
 use Rattle.text.specs.Text.{Put}
 use Rattle.simplify.specs.Answer.{LIMIT, modulus}
 use Rattle.simplify.specs.Copy.{Rooms}
-use Rattle.simplify.specs.Fresh.{CanFresh, Freshly}
+use Rattle.simplify.specs.Fresh.{Freshly}
 use Rattle.simplify.specs.Run.{freshRows, freshBytes}
+use Rattle.simplify.proofs.FreshRun.{fresh-length}
 use Rattle.explanation.specs.declared.Listing.{Listing}
 use Rattle.listing.specs.List.{readLine, resultLine, list, listFor, most}
 use Rattle.explanation.specs.Ready.{Listable, Explainable}
 use Rattle.explanation.specs.Why.{listOf, listing, Explained}
 use Rattle.explanation.proofs.Granted.{explained-short, explained-fits}
 use Rattle.explanation.proofs.Local.{lines-local}
-use Rattle.explanation.proofs.Restored.{fresh-length, restored}
+use Rattle.explanation.proofs.Restored.{restored}
 
 module _ (t buffer : List ℕ) (x : ℕ) (can : Explainable t buffer x) where
   ok : Accepted t
@@ -51,9 +52,6 @@ module _ (t buffer : List ℕ) (x : ℕ) (can : Explainable t buffer x) where
 
   pub explain-saves : (space : List ℕ) → length space ≡ LARGEST → Rooms buffer 0 (length t) space 0
   explain-saves space long = record { source = omega (arith, can .room); target = omega (arith, small, long) }
-
-  pub explain-runs : (store : List ℕ) → length store ≡ 2048 → CanFresh t buffer store
-  explain-runs store long = record { table = can .table; room = can .room; long = long }
 
   -- the rows of the fresh result
   formed : WellFormed (2 ^ width t) (freshRows t)
@@ -71,7 +69,7 @@ module _ (t buffer : List ℕ) (x : ℕ) (can : Explainable t buffer x) where
 
   module _ {left store : List ℕ} {removed : ℕ} (run : Freshly t buffer left store removed) where
     long : length left ≡ length buffer
-    long = ap length (run .result) ∙ fresh-length t buffer ok (can .room)
+    long = ap length (run .result) ∙ fresh-length t buffer
 
     -- the result row, as its bytes have it
     row-left : rowAt left x ≡ rowOf (freshRows t x)

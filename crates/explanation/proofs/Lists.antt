@@ -1,5 +1,5 @@
 -- The list of one read: what its parts ask, and that its lines are the list.
-use Prim.Native.Nat.{ℕ, suc, _+_, _*_, _^_, _≤_, _<_}
+use Prim.Native.Nat.{ℕ, suc, _+_, _*_, _≤_}
 use native.Mathlib.Nat.{le-refl}
 use native.Mathlib.Omega.{arith}
 use mathlib.Core.Path.{_≡_, refl, sym, ap, _∙_}
@@ -67,9 +67,6 @@ module _ (T R S l : List ℕ) (r : ℕ) (given : Listable T R r) {x : Row} (row 
     }
 
     module _ {m₂ : List ℕ} {end : ℕ} (walked : Put m₁ next (walkLines (look R) (kept S) (x .b) (walk (look R) (kept S) (x .b) LIMIT (x .a))) (256 * LIMIT + 40) m₂ end) where
-      pub list-early : end < 2 ^ 32
-      list-early = omega (arith, walked .few, head .few)
-
       pub list-length : {m₃ some : List ℕ} {k e : ℕ} → Put m₂ end some k m₃ e → length m₃ ≡ length l
       list-length p = put-length p ∙ put-length walked ∙ put-length head
 

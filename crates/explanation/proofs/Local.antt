@@ -9,15 +9,11 @@ use Rattle.rules.proofs.Stores.{NoStore}
 use Rattle.term.specs.declared.Reason.{Reason}
 use Rattle.term.specs.declared.Reason.the-variants.{SamePlace, Offsets, Separate, Undecided}
 use Rattle.term.specs.Term.{Term, const, var, shift, sum, diff, neg, read, fresh, write}
-use Rattle.term.specs.Base.{base, offset}
 use Rattle.term.specs.Walk.{walk}
 use Rattle.term.specs.Reason.{reason, knownBy}
+use Rattle.term.proofs.Reasons.{reason-agree}
 use Rattle.listing.specs.List.{storeLine, walkLines}
 use Rattle.explanation.proofs.Steps.{none-left, no-store-lines, lines-found, lines-stopped, lines-passed}
-
-reason-local : (f f′ : ℕ → Term) (g g′ : ℕ → Range) (x y : ℕ) → f x ≡ f′ x → f y ≡ f′ y → g x ≡ g′ x → g y ≡ g′ y → reason f g x y ≡ reason f′ g′ x y
-unfolding reason base offset
-reason-local f f′ g g′ x y p q r s = rw (p, q, r, s)
 
 -- f names rows below each row, and f′ and g′ agree with f and g below n
 module _
@@ -48,7 +44,7 @@ module _
       told : reason f g b i ≡ reason f′ g′ b i
       told =
           let low : b < n = omega (arith, named .1) in
-          reason-local f f′ g g′ b i (rows b low) (rows i index) (ranges b low) (ranges i index)
+          reason-agree f f′ g g′ b i (rows b low) (rows i index) (ranges b low) (ranges i index)
 
       alike-by : (why : Reason) → why ≡ reason f g b i → Alike (suc left) m
       unfolding knownBy

@@ -5,20 +5,15 @@ use mathlib.Core.Path.{_≡_, sym, ap, _∙_}
 use mathlib.Core.Bool.{true}
 use mathlib.Core.List.{List, _++_}
 use lib.ListN.{length, take, drop}
-use lib.Seq.{sets, sets-eq, length-sets, length-take-le, take-at}
+use lib.Seq.{sets, sets-eq, length-take-le}
 use Rattle.row.specs.Names.{HEADER, place}
 use Rattle.row.proofs.Places.{header-below}
-use Rattle.row.proofs.Sets.{sets-same, drop-sets}
+use Rattle.row.proofs.Sets.{sets-same, drop-sets, copied-there}
 use Rattle.table.specs.Refusals.{rows}
 use Rattle.table.specs.Accepted.{Accepted}
-use Rattle.term.proofs.Placed.{length-put-rows, put-rows-behind}
+use Rattle.term.proofs.Placed.{put-rows-behind}
 use Rattle.simplify.specs.Run.{freshRows, freshBytes}
-
--- n bytes copied are there
-copied-there : (n : ℕ) (from to : List ℕ) → n ≤ length from → n ≤ length to → take n (sets to 0 (take n from)) ≡ take n from
-copied-there n from to h room =
-    let long : length (take n from) ≡ n = length-take-le n from h in
-    ap (take n) (sets-eq (take n from) to 0 (rw (long, zero-add) room)) ∙ take-at (take n from) (drop (0 + length (take n from)) to) n long
+use Rattle.simplify.proofs.FreshRun.{fresh-length}
 
 -- slices that agree from n on, with the first n bytes of one written into the other
 put-back : (n : ℕ) (old new : List ℕ) → n ≤ length old → n ≤ length new → drop n new ≡ drop n old → sets new 0 (take n old) ≡ old
@@ -38,13 +33,9 @@ module _ (t buffer : List ℕ) (ok : Accepted t) (room : length t ≤ length buf
       put-rows-behind (λ x. true) (freshRows t) (rows t) (sets buffer 0 (take HEADER t)) (length t) (rw size (le-refl (place (rows t)))) ∙
       drop-sets (length t) buffer 0 (take HEADER t) (rw (length-take-le HEADER t fits, zero-add) fits)
 
-  pub fresh-length : length (freshBytes t buffer) ≡ length buffer
-  unfolding freshBytes
-  fresh-length = length-put-rows (λ x. true) (freshRows t) (rows t) (sets buffer 0 (take HEADER t)) ∙ length-sets buffer 0 (take HEADER t)
-
   -- saved before the run, and put back after it
   pub restored : (space saved : List ℕ) → length t ≤ length space → saved ≡ sets space 0 (take (length t) (drop 0 buffer))
       → sets (freshBytes t buffer) 0 (take (length t) (drop 0 saved)) ≡ buffer
   restored space saved long e =
       ap (sets (freshBytes t buffer) 0) (ap (take (length t)) e ∙ copied-there (length t) buffer space room long) ∙
-      put-back (length t) buffer (freshBytes t buffer) room (rw fresh-length room) fresh-behind
+      put-back (length t) buffer (freshBytes t buffer) room (rw (fresh-length t buffer) room) fresh-behind

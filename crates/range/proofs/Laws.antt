@@ -92,10 +92,6 @@ negation-proper M a p =
     (λ (s : ltb 0 (a .lo) ≡ true). omega tests)
     (λ (s : ltb 0 (a .lo) ≡ false). full-proper M (omega arith)))
 
--- of a call's result, by what the call ensures
-pub same-proper : (M : ℕ) (r a : Range) → r ≡ a → Proper M a → Proper M r
-same-proper M r a e p = rw e p
-
 -- ---- what else a caller may conclude
 
 pub disjoint-shares-none : (a b : Range) (x : ℕ) → disjoint a b ≡ true → Within x a → Within x b → ⊥

@@ -1,17 +1,14 @@
 -- A run of stores: two in a row, what it leaves alone, what stands where it wrote, and how it is undone.
 use Prim.Native.Nat.{ℕ, zero, suc, _+_, _-_, _<_, _≤_}
-use native.Mathlib.Nat.{add-zero, add-suc, suc-add}
+use native.Mathlib.Nat.{zero-add, add-zero, add-suc, suc-add}
 use native.Mathlib.Omega.{arith}
 use native.Mathlib.Decide.{decLt}
 use mathlib.Core.Path.{_≡_, refl, ap, sym, _∙_}
 use mathlib.Core.Logic.{dite}
 use mathlib.Core.List.{List, [], _∷_, _++_}
+use Rattle.basis.proofs.Sets.{sets-append}
 use lib.ListN.{length, getD, take, drop, set, length-set, drop-of-length-le, length-take, length-drop}
-use lib.Seq.{sets, length-sets, getD-set-same, getD-set-other, set-getD, drop-cons, ext-getD, take-set-le, drop-set-lt}
-
-pub sets-append : (l : List ℕ) (i : ℕ) (xs ys : List ℕ) → sets (sets l i xs) (i + length xs) ys ≡ sets l i (xs ++ ys)
-sets-append l i [] ys = rw add-zero
-sets-append l i (x ∷ xs) ys = rw (add-suc, ← suc-add) (sets-append (set l i x) (suc i) xs ys)
+use lib.Seq.{sets, sets-eq, length-sets, length-take-le, take-at, getD-set-same, getD-set-other, set-getD, drop-cons, ext-getD, take-set-le, drop-set-lt}
 
 pub sets-then : (l : List ℕ) (i k : ℕ) (xs ys : List ℕ) {m n : List ℕ} → m ≡ sets l i xs → n ≡ sets m (i + k) ys → length xs ≡ k → n ≡ sets l i (xs ++ ys)
 sets-then l i k xs ys p q e = rw (q, p, ← e) (sets-append l i xs ys)
@@ -68,3 +65,9 @@ sets-twice l i vs ws e room =
 pub sets-undone : (l : List ℕ) (i : ℕ) (vs : List ℕ) → i + length vs ≤ length l → sets (sets l i vs) i (take (length vs) (drop i l)) ≡ l
 sets-undone l i vs room =
     sets-twice l i vs (take (length vs) (drop i l)) (sym (simp (length-take, length-drop) (omega arith))) room ∙ sets-same l i (length vs)
+
+-- the first n bytes of a list, copied to the front of another, are there
+pub copied-there : (n : ℕ) (from to : List ℕ) → n ≤ length from → n ≤ length to → take n (sets to 0 (take n from)) ≡ take n from
+copied-there n from to h room =
+    let long : length (take n from) ≡ n = length-take-le n from h in
+    ap (take n) (sets-eq (take n from) to 0 (rw (long, zero-add) room)) ∙ take-at (take n from) (drop (0 + length (take n from)) to) n long

@@ -4,13 +4,11 @@ use native.Mathlib.Omega.{arith}
 use mathlib.Core.Path.{_≡_, ap, ap₂, sym, _∙_}
 use mathlib.Core.Bool.{true, false}
 use mathlib.Core.List.{List}
-use lib.ListN.{length, take}
-use lib.Seq.{sets, length-sets}
+use lib.ListN.{length}
 use lib.Dec.{eqb}
 use borrow.Author.Tests.{ne-eqb}
 use Rattle.basis.specs.Reason.{first}
 use Rattle.basis.proofs.Pick.{pick-true}
-use Rattle.range.specs.declared.Range.{Range}
 use Rattle.range.specs.Store.{kept}
 use Rattle.row.specs.Names.{HEADER, LENGTH, place}
 use Rattle.row.specs.Bytes.{Read}
@@ -22,12 +20,10 @@ use Rattle.table.proofs.Accepts.{accepted-gives}
 use Rattle.table.proofs.Faulty.{given-passes, given-refuses}
 use Rattle.term.specs.declared.Relation.{Relation}
 use Rattle.term.specs.declared.Relation.the-variants.{Unknown}
-use Rattle.term.specs.Term.{Term}
-use Rattle.term.specs.Base.{base, offset}
 use Rattle.term.specs.Relation.{related, rangeOf}
 use Rattle.term.specs.Result.{removedRows}
 use Rattle.term.specs.Bytes.{look}
-use Rattle.term.proofs.Placed.{length-put-rows}
+use Rattle.term.proofs.Reasons.{related-agree}
 use Rattle.rules.specs.Ready.{Reached}
 use Rattle.simplify.specs.declared.Answer.{Answer}
 use Rattle.simplify.specs.declared.Comparison.{Comparison}
@@ -38,12 +34,7 @@ use Rattle.simplify.specs.Fresh.{CanFresh, Freshly}
 use Rattle.simplify.specs.Compare.{pairReasons, arrayVerdict, compareVerdict, freshRelation, unknown, PairReached, compareAnswer, compareResult, Compared}
 use Rattle.simplify.proofs.Verdicts.{accepted-is}
 use Rattle.simplify.proofs.Granted.{CompareGranted, pair-granted, compare-granted}
-use Rattle.simplify.proofs.FreshRun.{answer-is as numbers-are, accepted-answer}
-
--- rows that agree at x and y are related alike
-related-same : (f f′ : ℕ → Term) (g g′ : ℕ → Range) (x y : ℕ) → f x ≡ f′ x → f y ≡ f′ y → g x ≡ g′ x → g y ≡ g′ y → related f g x y ≡ related f′ g′ x y
-unfolding related base offset
-related-same f f′ g g′ x y p q r s = rw (p, q, r, s)
+use Rattle.simplify.proofs.FreshRun.{fresh-length, answer-is as numbers-are, accepted-answer}
 
 module _ (t buffer : List ℕ) (x y : ℕ) where
   -- a refusal
@@ -91,8 +82,7 @@ module _ (t buffer : List ℕ) (x y : ℕ) where
 
         module _ {left store : List ℕ} {removed : ℕ} (fresh : Freshly t buffer left store removed) where
           long : length left ≡ length buffer
-          unfolding freshBytes
-          long = ap length (fresh .result) ∙ length-put-rows (λ u. true) (freshRows t) (rows t) (sets buffer 0 (take HEADER t)) ∙ length-sets buffer 0 (take HEADER t)
+          long = ap length (fresh .result) ∙ fresh-length t buffer
 
           reached : {u : ℕ} → u < rows t → Reached left u
           reached {u} l =
@@ -116,7 +106,7 @@ module _ (t buffer : List ℕ) (x y : ℕ) where
           compare-done {n} {k} few is =
               let told : k ≡ freshRelation t x y =
               is ∙
-              related-same (look left) (freshRows t) (kept store) (rangeOf (modulus t) (freshRows t)) x y
+              related-agree (look left) (freshRows t) (kept store) (rangeOf (modulus t) (freshRows t)) x y
               (fresh .rows-are x (ready .first-row)) (fresh .rows-are y (ready .second-row)) (fresh .ranges-are x (ready .first-row)) (fresh .ranges-are y (ready .second-row)) in
               record {
                 answer-is =

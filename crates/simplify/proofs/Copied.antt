@@ -6,7 +6,7 @@ use mathlib.Core.Path.{_≡_, refl, ap, sym, _∙_}
 use mathlib.Core.List.{List, [], _∷_, _++_}
 use lib.ListN.{length, getD, take, drop, set, length-drop, length-set}
 use lib.Seq.{sets, take-suc, length-take-le, getD-drop}
-use Rattle.row.proofs.Sets.{sets-append}
+use Rattle.basis.proofs.Sets.{sets-append}
 use Rattle.simplify.specs.Copy.{Rooms}
 
 -- `to₀` with the first i bytes copied is `to`

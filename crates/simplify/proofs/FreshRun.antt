@@ -18,6 +18,7 @@ use Rattle.table.proofs.Accepts.{accepted-gives}
 use Rattle.term.specs.Result.{result, removedRows}
 use Rattle.term.specs.Bytes.{look}
 use Rattle.term.proofs.Names.{NamesBelow}
+use Rattle.term.proofs.Placed.{length-put-rows}
 use Rattle.term.proofs.WellFormed.{formed-below}
 use Rattle.term.proofs.Accepted.{accepted-formed}
 use Rattle.simplify.specs.declared.Answer.{Answer}
@@ -93,6 +94,11 @@ module _ (t buffer store : List ℕ) (can : CanFresh t buffer store) where
     fresh-done renewed′ = done (rw (width-is .is, rows-is .is, copied) at renewed′)
 
 -- ---- run
+
+-- a fresh result is as long as the slice that it is written into
+pub fresh-length : (t buffer : List ℕ) → length (freshBytes t buffer) ≡ length buffer
+unfolding freshBytes
+fresh-length t buffer = length-put-rows (λ x. true) (freshRows t) (rows t) (sets buffer 0 (take HEADER t)) ∙ length-sets buffer 0 (take HEADER t)
 
 pub answer-is : (refusal row removed touched : ℕ) → _≡_ {A = Answer} (record { refusal = refusal; row = row; removed = removed; touched = touched }) (answer refusal row removed touched)
 unfolding answer

@@ -9,7 +9,7 @@ use lib.ListN.{length}
 use borrow.Author.Tests.{lt-ltb, le-ltb, ltb-false, eq-eqb, ne-eqb, eqb-true, eqb-false, not-false}
 use Rattle.basis.specs.Reason.{first}
 use Rattle.basis.proofs.Pick.{or-left, or-right, or-false}
-use Rattle.basis.proofs.Reasons.{NoneHolds, first-none, none-first}
+use Rattle.basis.proofs.Reasons.{NoneHolds, first-none}
 use Rattle.row.proofs.Places.{header-below}
 use Rattle.row.specs.Names.{HEADER, place}
 use Rattle.row.specs.Bytes.{Read}
@@ -98,9 +98,6 @@ head-none t good =
         ),
       ),
     )
-
-pub head-good : (t : List ℕ) → GoodHead t → first (headReasons t) ≡ 0
-head-good t good = none-first (headReasons t) (head-none t good)
 
 pub long-head : (t : List ℕ) → first (headReasons t) ≡ 0 → HEADER ≤ length t
 long-head t e = rw (good-head t e .size) (header-below (rows t))

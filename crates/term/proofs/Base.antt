@@ -1,6 +1,6 @@
 -- Bases: the tests on them say what they are named after, and what a row opens to in each case.
 use Prim.Native.Nat.{ℕ}
-use mathlib.Core.Path.{_≡_, refl, sym, ap, _∙_, subst}
+use mathlib.Core.Path.{_≡_, refl, sym, _∙_, subst}
 use mathlib.Core.Bool.{true, _&&_, false≢true}
 use mathlib.Core.List.{[], _∷_}
 use lib.Dec.{eqb}
@@ -43,10 +43,6 @@ is-nothing (one x) h = absurd (false≢true h)
 is-nothing (sumOf x y) h = absurd (false≢true h)
 is-nothing (difference x y) h = absurd (false≢true h)
 is-nothing (negative x) h = absurd (false≢true h)
-
-pub nothing-is : (d : Base) → d ≡ nothing → isNothing d ≡ true
-unfolding isNothing shapeOf
-nothing-is d h = ap isNothing h
 
 -- a row opens to y and its own offset where its base is one y, else to itself and 0
 pub open-case : (P : ℕ → ℕ → Type 0) (f : ℕ → Term) (x : ℕ) →

@@ -3,7 +3,7 @@
 use Prim.Native.Nat.{ℕ, _^_, _≤_, _<_}
 use native.Mathlib.Decide.{decLt}
 use native.Mathlib.Omega.{arith}
-use mathlib.Core.Path.{_≡_, refl, sym, ap, _∙_, subst}
+use mathlib.Core.Path.{_≡_, sym, ap, _∙_, subst}
 use mathlib.Core.Bool.{Bool, true, false, true≢false}
 use mathlib.Core.Logic.{dite}
 use mathlib.Core.List.{List}
@@ -99,27 +99,6 @@ module _
         put-accepted t kept touched out (accepted-head t ok) same room edit-formed bare
         (λ x l e. sym (cut-row kept (rows t) x l) ∙ sym (accepted-row part ok-kept x (part-count l)) ∙ ap rowOf (sym (kept-row x e)))
         (λ x l e. sym (cut-mark kept (rows t) x l) ∙ ok-kept .row x (part-count l) .marked)
-
-    pub edit-look : (x : ℕ) →
-        look (take (place (rows t)) (putRows touched (renewed (2 ^ width t) limit touched (look t) (look (take (place (rows t)) kept))) (rows t) kept)) x ≡
-        renewed (2 ^ width t) limit touched (look t) (look (take (place (rows t)) kept)) x
-    edit-look x =
-        dite (decLt x (rows t))
-        (λ (l : x < rows t).
-        cut-look put (rows t) x l ∙
-        look-put-rows touched out (rows t) kept room (λ y k e. rows-small t kept touched out (accepted-head t ok) same room edit-formed bare y k) x l ∙
-        pick-case (λ (u : Term). u ≡ out x) (touched x)
-        (λ (e : touched x ≡ true). refl)
-        (λ (e : touched x ≡ false). sym (cut-look kept (rows t) x l) ∙ sym (kept-row x e)))
-        (λ (l : x < rows t → ⊥).
-        look-past (take (place (rows t)) put) x (cut-end put (rows t) x (rw (length-put-rows touched out (rows t) kept) room) l) ∙
-        sym (past (2 ^ width t) limit touched (look t) (look part) (formed-below (2 ^ width t) (look t) (accepted-formed t ok))
-        (formed-below (2 ^ width t) (look part) part-formed) x
-        (look-past t x (table-end t ok x l))
-        (look-past part x (cut-end kept (rows t) x room l))))
-      where
-        put : List ℕ
-        put = putRows touched out (rows t) kept
 
 -- a table t, and a buffer that has its header: a fresh run
 module _

@@ -1,9 +1,7 @@
 -- The range of a row is had from those of the rows that it names, and this settles it: what the store of ranges keeps, row after row.
 use Prim.Native.Nat.{ℕ, zero, suc, _<_}
-use native.Mathlib.Nat.{le-of-suc-le-suc, not-suc-le-zero, lt-of-lt-of-le, lt-trans, lt-suc-self}
-use mathlib.Core.Path.{_≡_, sym, _∙_}
-use Rattle.basis.proofs.Builds.{from-below}
-use Rattle.range.specs.declared.Range.{Range}
+use native.Mathlib.Nat.{le-of-suc-le-suc, not-suc-le-zero, lt-of-lt-of-le, lt-suc-self}
+use mathlib.Core.Path.{_≡_}
 use Rattle.term.specs.Term.{Term}
 use Rattle.term.specs.Relation.{rangeBy, rangeDown, rangeOf}
 use Rattle.term.proofs.Names.{NamesBelow, names-widen}
@@ -25,12 +23,3 @@ module _ (M : ℕ) (f : ℕ → Term) (low : NamesBelow f) where
   range-eq x =
       range-by-local M (rangeDown M f x) (rangeOf M f) (f x)
       (names-widen (f x) (λ s y (h : y < x). range-deep x (suc y) y h (lt-suc-self y)) (low x))
-
-  -- no other ranges have these equations, as far as they have them
-  pub range-only : (g : ℕ → Range) (n : ℕ) → ((x : ℕ) → x < n → g x ≡ rangeBy M g (f x)) → (x : ℕ) → x < n → g x ≡ rangeOf M f x
-  range-only g n made =
-      from-below (λ x. x < n → g x ≡ rangeOf M f x)
-      (λ x earlier l.
-      made x l ∙
-      range-by-local M g (rangeOf M f) (f x) (names-widen (f x) (λ s y (h : y < x). earlier y h (lt-trans h l)) (low x)) ∙
-      sym (range-eq x))

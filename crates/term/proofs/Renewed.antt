@@ -4,7 +4,7 @@ use native.Mathlib.Nat.{le-refl, lt-trans, lt-suc-self}
 use mathlib.Core.Path.{_≡_, refl, sym, ap, _∙_, subst}
 use mathlib.Core.Bool.{Bool, true, false, cond, true≢false}
 use Rattle.basis.specs.Build.{grow}
-use Rattle.basis.proofs.Pick.{pick-case, pick-true, pick-false, pick-alike}
+use Rattle.basis.proofs.Pick.{pick-case, pick-false, pick-alike}
 use Rattle.basis.proofs.Builds.{grow-above, grow-below, grown-is, from-below}
 use Rattle.range.specs.declared.Range.{Range}
 use Rattle.term.specs.Term.{Term}
@@ -67,9 +67,6 @@ module _ (M limit : ℕ) (touched : ℕ → Bool) (t kept : ℕ → Term) (low :
       (closed-below (renewed M limit touched t kept) x (λ y l. renewed-below y))
       (λ s y l. sym (before-is x y l)) M limit (t x) (low x)))
       (λ (e : touched x ≡ false). refl)
-
-  pub renewed-made : (x : ℕ) → touched x ≡ true → renewed M limit touched t kept x ≡ simplified M limit (renewed M limit touched t kept) (t x)
-  renewed-made x e = renewed-eq x ∙ pick-true (touched x) _ _ e
 
   pub renewed-kept : (x : ℕ) → touched x ≡ false → renewed M limit touched t kept x ≡ kept x
   renewed-kept x e = renewed-eq x ∙ pick-false (touched x) _ _ e

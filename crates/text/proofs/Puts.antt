@@ -1,18 +1,15 @@
 -- Texts written one behind the other.
-use Prim.Native.Nat.{ℕ, suc, _+_, _*_, _/_, _%_, _^_, _≤_, _<_}
-use native.Mathlib.Nat.{le-refl, add-zero, add-suc, suc-add}
+use Prim.Native.Nat.{ℕ, _+_, _*_, _/_, _%_, _^_, _≤_, _<_}
+use native.Mathlib.Nat.{le-refl}
 use native.Mathlib.Numerals.{add-one}
 use native.Mathlib.Omega.{arith}
 use mathlib.Core.Path.{_≡_, refl, sym}
 use mathlib.Core.List.{List, [], _∷_, _++_, append-assoc, append-nil}
 use lib.ListN.{length, getD, take, set, length-append}
-use lib.Seq.{sets, length-sets, set-out, take-suc, take-all}
+use lib.Seq.{length-sets, set-out, take-suc, take-all}
+use Rattle.basis.proofs.Sets.{sets-append}
 use Rattle.text.specs.Text.{decimal, spaced, Put}
 use Rattle.text.proofs.Decimal.{decimal-one, decimal-more, decimal-few}
-
-sets-append : (l : List ℕ) (i : ℕ) (xs ys : List ℕ) → sets (sets l i xs) (i + length xs) ys ≡ sets l i (xs ++ ys)
-sets-append l i [] ys = rw add-zero
-sets-append l i (x ∷ xs) ys = rw (add-suc, ← suc-add) (sets-append (set l i x) (suc i) xs ys)
 
 -- no text
 pub put-none : (l : List ℕ) (at : ℕ) → Put l at [] 0 l at
