@@ -17,6 +17,9 @@ use Rattle.term.specs.Walk
 use Rattle.term.specs.Rule
 use Rattle.term.specs.Result
 use Rattle.term.specs.Bytes as termBytes
+use Rattle.judge.specs.Verdict
+use Rattle.judge.specs.Run as judgeRun
+use Rattle.judge.specs.Edit as judgeEdit
 use Rattle.simplify.specs.Answer
 use Rattle.simplify.specs.Run
 use Rattle.simplify.specs.Edit
@@ -24,5 +27,5 @@ use Rattle.cases.specs.Case
 use Rattle.cases.specs.Cases
 
 pub all-hold : Case.allHold Cases.cases ≡ true
-unfolding Build.put Build.grow Build.grown Count.countWhere Count.anyBelow Reason.first Word.plus Word.minus Range.span Range.point Range.full Range.sum Range.negation Range.disjoint Names.place Bytes.number Bytes.bytes Bytes.rowFrom Bytes.rowAt Bytes.markWrong Bytes.headOf Bytes.bytesOf Bytes.putRow Uses.sortOf Uses.usesOf Refusals.width Refusals.rows Refusals.headWrong Refusals.headReasons Refusals.reference Refusals.useAt Refusals.isUsed Refusals.anyField Refusals.strayField Refusals.largeNumber Refusals.notBelow Refusals.wrongSort Refusals.boundsCrossed Refusals.rowReasons Refusals.rowFault Refusals.refuse Refusals.accepted Refusals.given Refusals.firstFaulty Refusals.checkRows Refusals.checkTable Term.termOf Term.rowOf Term.isRead Term.isArray Term.anyNamed Base.base Base.offset Base.baseOf Base.offsetOf Base.written Base.shapeOf Base.leftOf Base.rightOf Base.sameBase Base.isNothing Base.openRow Base.openOffset Base.openTo Base.openBy Base.plainOf Base.plain Relation.rangeBy Relation.rangeDown Relation.rangeOf Relation.related Walk.walk Walk.walkAt Walk.step Rule.shiftRule Rule.sumRule Rule.negBy Rule.negRule Rule.diffRule Rule.readBy Rule.readRule Rule.skipBy Rule.skipAt Rule.writeRule Rule.rule Result.simplified Result.renewed Result.result Result.touchedBy Result.removedRows termBytes.look termBytes.putIf termBytes.putRows Answer.modulus Answer.isAccepted Answer.answer Answer.answered Run.roomReasons Run.runVerdict Run.freshRows Run.freshBytes Run.runAnswer Run.runResult Edit.edited Edit.keptPart Edit.otherHeader Edit.otherSorts Edit.keptWrong Edit.keptVerdict Edit.editReasons Edit.editVerdict Edit.editedRows Edit.editedBytes Edit.touchedRows Edit.editAnswer Edit.editTable Edit.editKept Case.holds Case.allHold Cases.p1 Cases.cases
+unfolding Build.put Build.grow Build.grown Count.countWhere Count.anyBelow Reason.first Word.plus Word.minus Range.span Range.point Range.full Range.sum Range.negation Range.disjoint Names.place Bytes.number Bytes.bytes Bytes.rowFrom Bytes.rowAt Bytes.markWrong Bytes.headOf Bytes.bytesOf Bytes.putRow Uses.sortOf Uses.usesOf Refusals.width Refusals.rows Refusals.headWrong Refusals.headReasons Refusals.reference Refusals.useAt Refusals.isUsed Refusals.anyField Refusals.strayField Refusals.largeNumber Refusals.notBelow Refusals.wrongSort Refusals.boundsCrossed Refusals.rowReasons Refusals.rowFault Refusals.refuse Refusals.accepted Refusals.given Refusals.firstFaulty Refusals.checkRows Refusals.checkTable Term.termOf Term.rowOf Term.isRead Term.isArray Term.anyNamed Base.base Base.offset Base.baseOf Base.offsetOf Base.written Base.shapeOf Base.leftOf Base.rightOf Base.sameBase Base.isNothing Base.openRow Base.openOffset Base.openTo Base.openBy Base.plainOf Base.plain Relation.rangeBy Relation.rangeDown Relation.rangeOf Relation.related Walk.walk Walk.walkAt Walk.step Rule.shiftRule Rule.sumRule Rule.negBy Rule.negRule Rule.diffRule Rule.readBy Rule.readRule Rule.skipBy Rule.skipAt Rule.writeRule Rule.rule Result.simplified Result.renewed Result.result Result.touchedBy Result.removedRows termBytes.look termBytes.putIf termBytes.putRows Verdict.isAccepted judgeRun.roomReasons judgeRun.runVerdict judgeEdit.keptPart judgeEdit.otherHeader judgeEdit.otherSorts judgeEdit.keptWrong judgeEdit.keptVerdict judgeEdit.editReasons Answer.modulus Answer.answer Answer.answered Run.freshRows Run.freshBytes Run.runAnswer Run.runResult Edit.edited Edit.editVerdict Edit.editedRows Edit.editedBytes Edit.touchedRows Edit.editAnswer Edit.editTable Edit.editKept Case.holds Case.allHold Cases.p1 Cases.cases
 all-hold = refl

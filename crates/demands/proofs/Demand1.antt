@@ -8,8 +8,10 @@ use mathlib.Core.List.{List}
 use lib.ListN.{length}
 use borrow.Author.Tests.{eq-eqb, ne-eqb}
 use Rattle.basis.proofs.Pick.{pick-true, pick-false, or-true-right, or-false}
-use Rattle.simplify.specs.Answer.{isAccepted, answer, answered}
-use Rattle.simplify.specs.Run.{runVerdict, runAnswer, runResult}
+use Rattle.judge.specs.Verdict.{isAccepted}
+use Rattle.judge.specs.Run.{runVerdict}
+use Rattle.simplify.specs.Answer.{answer, answered}
+use Rattle.simplify.specs.Run.{runAnswer, runResult}
 use Rattle.simplify.specs.Edit.{editVerdict, editAnswer, editTable, editKept}
 use Rattle.simplify.specs.Compare.{compareVerdict, compareResult}
 use Rattle.explanation.specs.Why.{listOf, whyVerdict, isMeasured, whyAnswer, whyResult, whyList}

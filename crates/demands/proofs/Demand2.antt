@@ -21,10 +21,13 @@ use Rattle.term.proofs.Accepted.{accepted-formed}
 use Rattle.meaning.specs.Meaning.{Choice, Permitted, value, content}
 use Rattle.meaning.proofs.Demand2 as rules
 use Rattle.meaning.proofs.Choices.{least, choice-exists}
-use Rattle.simplify.specs.Answer.{modulus, LIMIT, isAccepted}
-use Rattle.simplify.specs.Run.{runVerdict, freshRows, runResult}
+use Rattle.judge.specs.Verdict.{isAccepted}
+use Rattle.judge.specs.Run.{runVerdict}
+use Rattle.judge.proofs.Granted.{run-granted}
+use Rattle.simplify.specs.Answer.{modulus, LIMIT}
+use Rattle.simplify.specs.Run.{freshRows, runResult}
 use Rattle.simplify.specs.Compare.{compareVerdict, freshRelation, compareAnswer}
-use Rattle.simplify.proofs.Granted.{run-granted, compare-granted}
+use Rattle.simplify.proofs.Granted.{compare-granted}
 use Rattle.demands.specs.Own.{rowsIn}
 use Rattle.demands.proofs.Fresh.{fresh-look}
 

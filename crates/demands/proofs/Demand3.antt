@@ -21,11 +21,13 @@ use Rattle.term.proofs.WellFormed.{formed-below}
 use Rattle.term.proofs.Touched.{touched-is}
 use Rattle.term.proofs.Accepted.{accepted-formed}
 use Rattle.term.proofs.There.{rowBytes, rows-stay}
-use Rattle.simplify.specs.Answer.{isAccepted}
-use Rattle.simplify.specs.Run.{runVerdict, freshBytes, runResult}
+use Rattle.judge.specs.Verdict.{isAccepted}
+use Rattle.judge.specs.Run.{runVerdict}
+use Rattle.judge.proofs.Verdicts.{table-passes, head-same}
+use Rattle.judge.proofs.Granted.{run-granted, grant-run}
+use Rattle.simplify.specs.Run.{freshBytes, runResult}
 use Rattle.simplify.specs.Edit.{edited, editVerdict, editedRows, editedBytes, editTable, editKept}
-use Rattle.simplify.proofs.Verdicts.{table-passes, head-same}
-use Rattle.simplify.proofs.Granted.{run-granted, grant-run, EditGranted, edit-granted}
+use Rattle.simplify.proofs.Granted.{EditGranted, edit-granted}
 use Rattle.demands.specs.Own.{Own, Edits, none, one}
 use Rattle.simplify.proofs.FreshRun.{fresh-length}
 use Rattle.demands.proofs.Fresh.{fresh-head, fresh-there, fresh-again}

@@ -22,9 +22,10 @@ use Rattle.term.proofs.There.{rowBytes, rows-alike}
 use Rattle.term.proofs.Accepted.{accepted-formed}
 use Rattle.term.proofs.Acceptable.{same-width, same-rows}
 use Rattle.term.proofs.Outcome.{run-look}
+use Rattle.judge.specs.Edit.{keptPart}
 use Rattle.simplify.specs.Answer.{modulus, LIMIT}
 use Rattle.simplify.specs.Run.{freshRows, freshBytes}
-use Rattle.simplify.specs.Edit.{edited, keptPart, editedRows, editedBytes}
+use Rattle.simplify.specs.Edit.{edited, editedRows, editedBytes}
 use Rattle.demands.proofs.Fresh.{head-there, fresh-head, fresh-there}
 
 module _ (t kept : List ℕ) (r : ℕ) (new : List ℕ) (long : length new ≡ LENGTH) (ok : Accepted t) (ok′ : Accepted (edited t r new)) (room : length t ≤ length kept)

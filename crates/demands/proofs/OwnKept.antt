@@ -31,11 +31,13 @@ use Rattle.term.proofs.WellFormed.{result-sort}
 use Rattle.term.proofs.Accepted.{accepted-formed}
 use Rattle.term.proofs.Acceptable.{same-rows}
 use Rattle.term.proofs.Outcome.{run-accepted, run-look}
-use Rattle.simplify.specs.Answer.{modulus, LIMIT, isAccepted}
+use Rattle.judge.specs.Verdict.{isAccepted}
+use Rattle.judge.specs.Edit.{keptPart, otherHeader, otherSorts, keptWrong, keptVerdict, editReasons}
+use Rattle.judge.proofs.Verdicts.{accepted-is}
+use Rattle.judge.proofs.Granted.{EditReady, edit-ready, run-granted}
+use Rattle.simplify.specs.Answer.{modulus, LIMIT}
 use Rattle.simplify.specs.Run.{freshRows, freshBytes}
-use Rattle.simplify.specs.Edit.{edited, keptPart, otherHeader, otherSorts, keptWrong, keptVerdict, editReasons, editVerdict}
-use Rattle.simplify.proofs.Verdicts.{accepted-is}
-use Rattle.simplify.proofs.Granted.{EditReady, edit-ready, run-granted}
+use Rattle.simplify.specs.Edit.{edited, editVerdict}
 use Rattle.demands.specs.Own.{Own}
 use Rattle.demands.proofs.Fresh.{head-there, fresh-head}
 use Rattle.demands.proofs.Demand3.{run-leaves}

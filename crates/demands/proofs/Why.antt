@@ -33,9 +33,11 @@ use Rattle.term.proofs.WellFormed.{formed-below, result-sort, result-formed}
 use Rattle.meaning.specs.Meaning.{Choice, Permitted, value}
 use Rattle.meaning.proofs.Reasons.{Explains}
 use Rattle.meaning.proofs.Demand2 as rules
-use Rattle.simplify.specs.Answer.{modulus, LIMIT, isAccepted, answered}
-use Rattle.simplify.specs.Run.{runVerdict, runAnswer, runResult, freshRows}
-use Rattle.simplify.proofs.Granted.{run-granted, grant-run}
+use Rattle.judge.specs.Verdict.{isAccepted}
+use Rattle.judge.specs.Run.{runVerdict}
+use Rattle.judge.proofs.Granted.{run-granted, grant-run}
+use Rattle.simplify.specs.Answer.{modulus, LIMIT, answered}
+use Rattle.simplify.specs.Run.{runAnswer, runResult, freshRows}
 use Rattle.listing.specs.List.{list, listFor}
 use Rattle.explanation.specs.Why.{listOf, whyVerdict, isMeasured, whyAnswer, whyResult, whyList}
 use Rattle.listing.proofs.Short.{list-short}

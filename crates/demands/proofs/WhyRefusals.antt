@@ -18,10 +18,10 @@ use Rattle.table.proofs.Faulty.{given-passes, given-refuses, refuse-number, ref
 use Rattle.table.proofs.Exactly.{HeadRefused, RowRefused, row-refusal, given-refusal}
 use Rattle.term.specs.Term.{isRead}
 use Rattle.term.specs.Bytes.{look}
-use Rattle.simplify.specs.Answer.{isAccepted}
-use Rattle.simplify.specs.Run.{roomReasons}
-use Rattle.simplify.proofs.Verdicts.{is-accepted, given-number, given-after, rows-pass, rows-after, table-passes, head-numbered}
-use Rattle.simplify.proofs.Granted.{Roomy, roomy, room-numbered}
+use Rattle.judge.specs.Verdict.{isAccepted}
+use Rattle.judge.specs.Run.{roomReasons}
+use Rattle.judge.proofs.Verdicts.{is-accepted, given-number, given-after, rows-pass, rows-after, table-passes, head-numbered}
+use Rattle.judge.proofs.Granted.{Roomy, roomy, room-numbered}
 use Rattle.explanation.specs.Why.{listOf, rowReasons, readReasons, spaceReasons, whyVerdict}
 
 -- none of 1 to 7 and of 9 to 15 holds

@@ -6,8 +6,9 @@ use mathlib.Core.List.{List}
 use lib.ListN.{length, take}
 use Rattle.term.specs.Term.{Term}
 use Rattle.term.specs.Bytes.{look}
-use Rattle.simplify.specs.Answer.{isAccepted}
-use Rattle.simplify.specs.Run.{runVerdict, runResult}
+use Rattle.judge.specs.Verdict.{isAccepted}
+use Rattle.judge.specs.Run.{runVerdict}
+use Rattle.simplify.specs.Run.{runResult}
 use Rattle.simplify.specs.Edit.{editVerdict, editTable, editKept}
 
 -- the rows of a result: those in its first 6 + 26n bytes

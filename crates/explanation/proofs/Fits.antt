@@ -9,8 +9,9 @@ use lib.Seq.{length-sets}
 use borrow.Author.Tests.{ltb-false}
 use Rattle.basis.proofs.Pick.{pick-true, pick-case, or-true-left}
 use Rattle.basis.proofs.Reasons.{first-none}
-use Rattle.simplify.specs.Answer.{isAccepted, answer, answered}
-use Rattle.simplify.proofs.Verdicts.{accepted-is, given-number, given-after, rows-after}
+use Rattle.judge.specs.Verdict.{isAccepted}
+use Rattle.judge.proofs.Verdicts.{accepted-is, given-number, given-after, rows-after}
+use Rattle.simplify.specs.Answer.{answer, answered}
 use Rattle.explanation.specs.declared.Listing.{Listing}
 use Rattle.explanation.specs.Why.{listOf, spaceReasons, whyVerdict, isMeasured, whyAnswer, whyList, Explained}
 

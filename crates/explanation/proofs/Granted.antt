@@ -15,10 +15,12 @@ use Rattle.table.proofs.Faulty.{given-passes}
 use Rattle.term.specs.Term.{isRead}
 use Rattle.term.specs.Result.{removedRows}
 use Rattle.term.specs.Bytes.{look}
-use Rattle.simplify.specs.Answer.{isAccepted, answer, answered}
-use Rattle.simplify.specs.Run.{roomReasons, runVerdict, freshRows, freshBytes}
-use Rattle.simplify.proofs.Verdicts.{is-accepted, given-number, given-after, rows-pass}
-use Rattle.simplify.proofs.Granted.{room-numbered, grant-run}
+use Rattle.judge.specs.Verdict.{isAccepted}
+use Rattle.judge.specs.Run.{roomReasons, runVerdict}
+use Rattle.judge.proofs.Verdicts.{is-accepted, given-number, given-after, rows-pass}
+use Rattle.judge.proofs.Granted.{room-numbered, grant-run}
+use Rattle.simplify.specs.Answer.{answer, answered}
+use Rattle.simplify.specs.Run.{freshRows, freshBytes}
 use Rattle.explanation.specs.declared.Listing.{Listing}
 use Rattle.explanation.specs.Why.{listOf, rowReasons, readReasons, spaceReasons, whyVerdict, isMeasured}
 use Rattle.explanation.specs.Why.{listing, whyAnswer, whyResult, whyList, Explained}

@@ -16,8 +16,8 @@ use Rattle.table.specs.Refusals.{rows, refuse, accepted, given}
 use Rattle.table.proofs.Heads.{good-head}
 use Rattle.term.specs.Term.{isRead}
 use Rattle.term.specs.Bytes.{look}
-use Rattle.simplify.specs.Run.{roomReasons}
-use Rattle.simplify.proofs.Granted.{room-numbered}
+use Rattle.judge.specs.Run.{roomReasons}
+use Rattle.judge.proofs.Granted.{room-numbered}
 use Rattle.simplify.proofs.Turning.{read-told}
 use Rattle.explanation.specs.Why.{rowReasons, readReasons}
 use Rattle.explanation.specs.Ready.{There}

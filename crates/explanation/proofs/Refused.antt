@@ -14,12 +14,13 @@ use Rattle.table.specs.Refusals.{rows, headReasons, rowReasons as rowFaults, ro
 use Rattle.table.proofs.Faulty.{given-passes, given-refuses}
 use Rattle.term.specs.Term.{isRead}
 use Rattle.term.specs.Bytes.{look}
+use Rattle.judge.specs.Verdict.{isAccepted}
+use Rattle.judge.specs.Run.{roomReasons}
+use Rattle.judge.proofs.Verdicts.{given-number, rows-after, table-passes}
+use Rattle.judge.proofs.Granted.{Roomy, roomy, room-numbered}
+use Rattle.judge.proofs.Judged.{rows-refused}
 use Rattle.simplify.specs.declared.Answer.{Answer}
-use Rattle.simplify.specs.Answer.{isAccepted, answer, answered}
-use Rattle.simplify.specs.Run.{roomReasons}
-use Rattle.simplify.proofs.Verdicts.{given-number, rows-after, table-passes}
-use Rattle.simplify.proofs.Granted.{Roomy, roomy, room-numbered}
-use Rattle.simplify.proofs.Judged.{rows-refused}
+use Rattle.simplify.specs.Answer.{answer, answered}
 use Rattle.explanation.specs.declared.Listing.{Listing}
 use Rattle.explanation.specs.Why.{rowReasons, readReasons, spaceReasons, whyVerdict, isMeasured}
 use Rattle.explanation.specs.Why.{listing, whyAnswer, whyResult, whyList, Explained}

@@ -13,8 +13,10 @@ use Rattle.term.specs.Term.{rowOf, isRead}
 use Rattle.term.specs.Relation.{rangeOf}
 use Rattle.term.specs.Result.{removedRows}
 use Rattle.term.specs.Bytes.{look}
-use Rattle.simplify.specs.Answer.{LIMIT, modulus, isAccepted, answer, answered}
-use Rattle.simplify.specs.Run.{roomReasons, freshRows, freshBytes}
+use Rattle.judge.specs.Verdict.{isAccepted}
+use Rattle.judge.specs.Run.{roomReasons}
+use Rattle.simplify.specs.Answer.{LIMIT, modulus, answer, answered}
+use Rattle.simplify.specs.Run.{freshRows, freshBytes}
 use Rattle.explanation.specs.declared.Listing.{Listing}
 use Rattle.listing.specs.List.{listFor}
 

@@ -11,7 +11,7 @@ use table::Verdict;
 pub fn row(t: &[u8], buffer: &[u8], x: u64) -> u64
     ensures { λ n. ⌜ n ≡ first (rowReasons (now (t .entry)) (now (buffer .entry)) x) ⌝ }
 {
-    let number = simplify::room(t, buffer);
+    let number = judge::room(t, buffer);
     if number != 0 {
         return number;
     }

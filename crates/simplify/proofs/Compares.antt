@@ -25,14 +25,16 @@ use Rattle.term.specs.Result.{removedRows}
 use Rattle.term.specs.Bytes.{look}
 use Rattle.term.proofs.Reasons.{related-agree}
 use Rattle.rules.specs.Ready.{Reached}
+use Rattle.judge.specs.Verdict.{isAccepted}
+use Rattle.judge.specs.Compare.{pairReasons, arrayVerdict}
+use Rattle.judge.specs.Judge.{PairThere}
+use Rattle.judge.proofs.Verdicts.{accepted-is}
 use Rattle.simplify.specs.declared.Answer.{Answer}
 use Rattle.simplify.specs.declared.Comparison.{Comparison}
-use Rattle.simplify.specs.Answer.{modulus, isAccepted, answer, answered}
-use Rattle.simplify.specs.Judge.{PairThere}
+use Rattle.simplify.specs.Answer.{modulus, answer, answered}
 use Rattle.simplify.specs.Run.{freshRows, freshBytes}
 use Rattle.simplify.specs.Fresh.{CanFresh, Freshly}
-use Rattle.simplify.specs.Compare.{pairReasons, arrayVerdict, compareVerdict, freshRelation, unknown, PairReached, compareAnswer, compareResult, Compared}
-use Rattle.simplify.proofs.Verdicts.{accepted-is}
+use Rattle.simplify.specs.Compare.{compareVerdict, freshRelation, unknown, PairReached, compareAnswer, compareResult, Compared}
 use Rattle.simplify.proofs.Granted.{CompareGranted, pair-granted, compare-granted}
 use Rattle.simplify.proofs.FreshRun.{fresh-length, answer-is as numbers-are, accepted-answer}
 

@@ -22,13 +22,16 @@ use Rattle.table.proofs.Faulty.{given-passes, given-refuses}
 use Rattle.term.specs.Result.{removedRows}
 use Rattle.term.specs.Bytes.{look}
 use Rattle.term.proofs.Acceptable.{same-rows}
+use Rattle.judge.specs.Verdict.{isAccepted}
+use Rattle.judge.specs.Edit.{keptPart, keptWrong, keptVerdict, editReasons}
+use Rattle.judge.specs.Judge.{EditThere}
+use Rattle.judge.proofs.Verdicts.{accepted-is, table-passes, head-same}
+use Rattle.judge.proofs.Granted.{EditReady, edit-ready}
 use Rattle.simplify.specs.declared.Answer.{Answer}
-use Rattle.simplify.specs.Answer.{isAccepted, answer, answered}
-use Rattle.simplify.specs.Judge.{EditThere}
-use Rattle.simplify.specs.Edit.{edited, keptPart, keptWrong, keptVerdict, editReasons, editVerdict, editedRows, editedBytes, touchedRows, editAnswer, editTable, editKept, Edited}
+use Rattle.simplify.specs.Answer.{answer, answered}
+use Rattle.simplify.specs.Edit.{edited, editVerdict, editedRows, editedBytes, touchedRows, editAnswer, editTable, editKept, Edited}
 use Rattle.simplify.specs.Patch.{CanTake, CanPut, CanPatch, Patched}
-use Rattle.simplify.proofs.Verdicts.{accepted-is, table-passes, head-same}
-use Rattle.simplify.proofs.Granted.{EditReady, edit-ready, EditGranted, edit-granted}
+use Rattle.simplify.proofs.Granted.{EditGranted, edit-granted}
 use Rattle.simplify.proofs.FreshRun.{accepted-answer}
 
 row-long : (t : List ℕ) (r : ℕ) → place r + LENGTH ≤ length t → length (take LENGTH (drop (place r) t)) ≡ LENGTH

@@ -21,14 +21,16 @@ use Rattle.term.proofs.Names.{NamesBelow}
 use Rattle.term.proofs.Placed.{length-put-rows}
 use Rattle.term.proofs.WellFormed.{formed-below}
 use Rattle.term.proofs.Accepted.{accepted-formed}
+use Rattle.judge.specs.Verdict.{isAccepted}
+use Rattle.judge.specs.Run.{runVerdict}
+use Rattle.judge.proofs.Verdicts.{accepted-is}
+use Rattle.judge.proofs.Granted.{RunGranted, run-granted}
 use Rattle.simplify.specs.declared.Answer.{Answer}
-use Rattle.simplify.specs.Answer.{modulus, isAccepted, answer, answered}
+use Rattle.simplify.specs.Answer.{modulus, answer, answered}
 use Rattle.simplify.specs.Copy.{Rooms}
 use Rattle.simplify.specs.Renew.{marked, CanRenew, Renewed}
-use Rattle.simplify.specs.Run.{runVerdict, freshRows, freshBytes, runAnswer, runResult, Ran}
+use Rattle.simplify.specs.Run.{freshRows, freshBytes, runAnswer, runResult, Ran}
 use Rattle.simplify.specs.Fresh.{CanFresh, Freshly}
-use Rattle.simplify.proofs.Verdicts.{accepted-is}
-use Rattle.simplify.proofs.Granted.{RunGranted, run-granted}
 use Rattle.simplify.proofs.Outcome.{outcome-is, ranges-are, bytes-are, removed-is}
 
 -- every row is marked

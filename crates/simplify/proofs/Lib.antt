@@ -1,9 +1,6 @@
 -- Laws of this crate.
 pub mod Copied
-pub mod Verdicts
 pub mod Granted
-pub mod Judged
-pub mod KeptJudged
 pub mod Marking
 pub mod Renewing
 pub mod Turning

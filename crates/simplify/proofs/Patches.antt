@@ -22,12 +22,14 @@ use Rattle.term.proofs.Names.{NamesBelow}
 use Rattle.term.proofs.WellFormed.{formed-below}
 use Rattle.term.proofs.Looked.{cut-look}
 use Rattle.term.proofs.Accepted.{accepted-formed}
-use Rattle.simplify.specs.Answer.{modulus, isAccepted, answer}
+use Rattle.judge.specs.Verdict.{isAccepted}
+use Rattle.judge.specs.Edit.{keptPart, otherHeader, otherSorts, keptWrong}
+use Rattle.judge.proofs.Verdicts.{accepted-only}
+use Rattle.simplify.specs.Answer.{modulus, answer}
 use Rattle.simplify.specs.Renew.{marked, CanRenew, Renewed}
 use Rattle.simplify.specs.Marks.{CanMark, Marked}
-use Rattle.simplify.specs.Edit.{keptPart, otherHeader, otherSorts, keptWrong, editedRows, editedBytes, touchedRows}
+use Rattle.simplify.specs.Edit.{editedRows, editedBytes, touchedRows}
 use Rattle.simplify.specs.Patch.{CanPatch, Patched}
-use Rattle.simplify.proofs.Verdicts.{accepted-only}
 use Rattle.simplify.proofs.FreshRun.{answer-is}
 use Rattle.simplify.proofs.Outcome.{bytes-are, removed-is}
 

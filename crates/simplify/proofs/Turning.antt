@@ -17,8 +17,8 @@ use Rattle.term.specs.Result.{removedRows}
 use Rattle.term.specs.Bytes.{look}
 use Rattle.term.proofs.Placed.{length-put-if}
 use Rattle.rules.specs.Written.{settled, CanWrite, Written}
+use Rattle.judge.specs.Judge.{Both}
 use Rattle.simplify.specs.Answer.{LIMIT}
-use Rattle.simplify.specs.Judge.{Both}
 use Rattle.simplify.specs.Renew.{marked, outcome, CanTurn, Turned, CanRenew}
 use Rattle.simplify.proofs.Marking.{at-most}
 use Rattle.simplify.proofs.Renewing.{Renewing, can-write, turned}

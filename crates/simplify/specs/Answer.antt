@@ -1,10 +1,10 @@
 -- What every public function answers: document 01, "What is answered".
 use Prim.Native.Nat.{ℕ, _^_}
-use mathlib.Core.Bool.{Bool, cond}
+use mathlib.Core.Bool.{cond}
 use mathlib.Core.List.{List}
-use lib.Dec.{eqb}
 use Rattle.table.specs.declared.Verdict.{Verdict}
 use Rattle.table.specs.Refusals.{width}
+use Rattle.judge.specs.Verdict.{isAccepted}
 use Rattle.simplify.specs.declared.Answer.{Answer}
 
 -- the modulus of a table's words
@@ -14,9 +14,6 @@ modulus t = 2 ^ width t
 -- the stores that a read compares at most
 abbrev pub LIMIT : ℕ
 LIMIT = 1024
-
-unfoldable pub isAccepted : Verdict → Bool
-isAccepted v = eqb (v .number) 0
 
 unfoldable pub answer : ℕ → ℕ → ℕ → ℕ → Answer
 answer refusal row removed touched = record { refusal = refusal; row = row; removed = removed; touched = touched }

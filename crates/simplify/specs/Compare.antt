@@ -1,34 +1,22 @@
 -- A comparison of two rows: document 01, "Comparison".
 use Prim.Native.Nat.{ℕ}
 use mathlib.Core.Path.{_≡_}
-use mathlib.Core.Bool.{cond, _||_}
-use mathlib.Core.List.{List, [], _∷_, _++_}
-use lib.Dec.{leb}
-use Rattle.basis.specs.Reason.{Reason, _when_, first}
+use mathlib.Core.Bool.{cond}
+use mathlib.Core.List.{List}
+use Rattle.basis.specs.Reason.{first}
 use Rattle.table.specs.declared.Verdict.{Verdict}
-use Rattle.table.specs.Refusals.{rows, given, checkRows, accepted}
+use Rattle.table.specs.Refusals.{rows, given, checkRows}
 use Rattle.term.specs.declared.Relation.{Relation}
 use Rattle.term.specs.declared.Relation.the-variants.{Unknown}
-use Rattle.term.specs.Term.{isArray}
 use Rattle.term.specs.Relation.{related, rangeOf}
 use Rattle.term.specs.Result.{removedRows}
 use Rattle.term.specs.Bytes.{look}
 use Rattle.rules.specs.Ready.{Reached}
+use Rattle.judge.specs.Verdict.{isAccepted}
+use Rattle.judge.specs.Compare.{pairReasons, arrayVerdict}
 use Rattle.simplify.specs.declared.Comparison.{Comparison}
-use Rattle.simplify.specs.Answer.{modulus, isAccepted, answer, answered}
-use Rattle.simplify.specs.Run.{roomReasons, freshRows, freshBytes}
-
--- 1 to 7
-unfoldable pub pairReasons : List ℕ → List ℕ → ℕ → ℕ → List Reason
-pairReasons t buffer x y = roomReasons t buffer ++ 7 when (leb (rows t) x || leb (rows t) y) ∷ []
-
--- 14 for a number that names an array row
-unfoldable pub arrayReasons : List ℕ → ℕ → List Reason
-arrayReasons t x = 14 when isArray (look t x) ∷ []
-
--- the first number first
-unfoldable pub arrayVerdict : List ℕ → ℕ → ℕ → Verdict
-arrayVerdict t x y = given (first (arrayReasons t x)) x (given (first (arrayReasons t y)) y accepted)
+use Rattle.simplify.specs.Answer.{modulus, answer, answered}
+use Rattle.simplify.specs.Run.{freshRows, freshBytes}
 
 -- 1 to 7; then 9 to 15; then 14 for a number that names an array row
 unfoldable pub compareVerdict : List ℕ → List ℕ → ℕ → ℕ → Verdict

@@ -1,51 +1,25 @@
 -- An edit of one row: document 01, "Edit".
 use Prim.Native.Nat.{ℕ}
 use mathlib.Core.Path.{_≡_}
-use mathlib.Core.Bool.{Bool, Bool·beq, cond, not, _||_}
-use mathlib.Core.List.{List, [], _∷_, _++_}
-use lib.ListN.{length, take}
+use mathlib.Core.Bool.{cond}
+use mathlib.Core.List.{List}
 use lib.Seq.{sets}
-use lib.Dec.{leb, eqb}
-use Rattle.basis.specs.Reason.{Reason, _when_, first}
-use Rattle.basis.specs.Count.{countWhere, anyBelow}
-use Rattle.row.specs.Names.{HEADER, LENGTH, place}
-use Rattle.row.specs.Bytes.{byte}
+use Rattle.basis.specs.Reason.{first}
+use Rattle.basis.specs.Count.{countWhere}
+use Rattle.row.specs.Names.{place}
 use Rattle.table.specs.declared.Verdict.{Verdict}
-use Rattle.table.specs.Refusals.{rows, given, checkRows, checkTable, accepted}
-use Rattle.term.specs.Term.{Term, isArray}
+use Rattle.table.specs.Refusals.{rows, given, checkRows}
+use Rattle.term.specs.Term.{Term}
 use Rattle.term.specs.Result.{renewed, touchedBy, removedRows}
 use Rattle.term.specs.Bytes.{look, putRows}
+use Rattle.judge.specs.Verdict.{isAccepted}
+use Rattle.judge.specs.Edit.{keptPart, editReasons, keptVerdict}
 use Rattle.simplify.specs.declared.Answer.{Answer}
-use Rattle.simplify.specs.Answer.{modulus, LIMIT, isAccepted, answered}
-use Rattle.simplify.specs.Run.{roomReasons}
+use Rattle.simplify.specs.Answer.{modulus, LIMIT, answered}
 
 -- the table with the replacement in place of row r
 unfoldable pub edited : List ℕ → ℕ → List ℕ → List ℕ
 edited t r replacement = sets t (place r) replacement
-
--- the part of a kept result that is judged and renewed: its first 6 + 26n bytes
-unfoldable pub keptPart : List ℕ → List ℕ → List ℕ
-keptPart t kept = take (place (rows t)) kept
-
--- the two headers differ
-unfoldable pub otherHeader : List ℕ → List ℕ → Bool
-otherHeader t kept = anyBelow (λ i. not (eqb (byte kept i) (byte t i))) HEADER
-
--- some row is an array in one and a word in the other
-unfoldable pub otherSorts : List ℕ → List ℕ → Bool
-otherSorts t kept = anyBelow (λ x. not (Bool·beq (isArray (look kept x)) (isArray (look t x)))) (rows t)
-
--- 16, for the edited table t and the part of the kept result
-unfoldable pub keptWrong : List ℕ → List ℕ → Bool
-keptWrong t kept = not (isAccepted (checkTable kept)) || otherHeader t kept || otherSorts t kept
-
--- 1 to 8
-unfoldable pub editReasons : List ℕ → List ℕ → ℕ → List ℕ → List Reason
-editReasons t kept r replacement =
-    roomReasons t kept ++ 7 when leb (rows t) r ∷ 8 when not (eqb (length replacement) LENGTH) ∷ []
-
-unfoldable pub keptVerdict : List ℕ → List ℕ → Verdict
-keptVerdict t kept = given (first (16 when keptWrong t kept ∷ [])) 0 accepted
 
 -- 1 to 8; then 9 to 15 with the replacement in place; then 16
 unfoldable pub editVerdict : List ℕ → List ℕ → ℕ → List ℕ → Verdict

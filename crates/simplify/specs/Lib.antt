@@ -3,7 +3,6 @@ pub mod Answer
 pub mod Renew
 pub mod Marks
 pub mod Copy
-pub mod Judge
 pub mod Run
 pub mod Fresh
 pub mod Edit

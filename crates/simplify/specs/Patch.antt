@@ -8,9 +8,10 @@ use Rattle.row.specs.Names.{LENGTH, place}
 use Rattle.table.specs.Refusals.{rows, accepted, checkTable}
 use Rattle.term.specs.Result.{removedRows}
 use Rattle.term.specs.Bytes.{look}
+use Rattle.judge.specs.Edit.{keptPart, keptWrong}
 use Rattle.simplify.specs.declared.Answer.{Answer}
 use Rattle.simplify.specs.Answer.{answer}
-use Rattle.simplify.specs.Edit.{keptPart, keptWrong, editedRows, editedBytes, touchedRows}
+use Rattle.simplify.specs.Edit.{editedRows, editedBytes, touchedRows}
 
 -- row r is there, and there is room for its bytes and no more
 pub record CanTake (t : List ℕ) (r : ℕ) (old : List ℕ) : Type 0 where

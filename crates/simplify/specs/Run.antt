@@ -2,26 +2,18 @@
 use Prim.Native.Nat.{ℕ}
 use mathlib.Core.Path.{_≡_}
 use mathlib.Core.Bool.{true, cond}
-use mathlib.Core.List.{List, [], _∷_, _++_}
-use lib.ListN.{length, take}
+use mathlib.Core.List.{List}
+use lib.ListN.{take}
 use lib.Seq.{sets}
-use lib.Dec.{ltb}
-use Rattle.basis.specs.Reason.{Reason, _when_, first}
 use Rattle.row.specs.Names.{HEADER}
-use Rattle.table.specs.declared.Verdict.{Verdict}
-use Rattle.table.specs.Refusals.{rows, headReasons, given, checkRows, accepted}
+use Rattle.table.specs.Refusals.{rows}
 use Rattle.term.specs.Term.{Term}
 use Rattle.term.specs.Result.{result, removedRows}
 use Rattle.term.specs.Bytes.{look, putRows}
+use Rattle.judge.specs.Verdict.{isAccepted}
+use Rattle.judge.specs.Run.{runVerdict}
 use Rattle.simplify.specs.declared.Answer.{Answer}
-use Rattle.simplify.specs.Answer.{modulus, LIMIT, isAccepted, answered}
-
--- 1 to 6
-unfoldable pub roomReasons : List ℕ → List ℕ → List Reason
-roomReasons t buffer = headReasons t ++ 6 when ltb (length buffer) (length t) ∷ []
-
-unfoldable pub runVerdict : List ℕ → List ℕ → Verdict
-runVerdict t buffer = given (first (roomReasons t buffer)) 0 (checkRows t accepted)
+use Rattle.simplify.specs.Answer.{modulus, LIMIT, answered}
 
 -- the rows of a table's fresh result
 unfoldable pub freshRows : List ℕ → ℕ → Term

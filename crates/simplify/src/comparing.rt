@@ -7,7 +7,6 @@ ghost use Rattle.simplify.specs.Answer.{answer};
 ghost use Rattle.simplify.specs.Compare.{unknown, PairReached, Compared};
 use crate::Answer;
 use crate::Comparison;
-use crate::judge;
 use crate::running::fresh;
 use crate::running::refused;
 use term::Relation;

@@ -6,7 +6,6 @@ ghost use Rattle.simplify.specs.Edit.{edited, Edited};
 ghost use Rattle.simplify.specs.Patch.{CanTake, CanPut, CanPatch, Patched};
 use crate::Answer;
 use crate::copying::copy;
-use crate::judge;
 use crate::marks;
 use crate::renew::renew;
 use crate::running::refused;

@@ -1,9 +1,7 @@
-// Run, edit and compare over lent bytes; and, for the tools that stand on a fresh run, the run itself and what it is refused for.
+// Run, edit and compare over lent bytes; and, for the tools that stand on a fresh run, the run itself and the answer of a refusal.
 mod comparing;
 mod copying;
 mod editing;
-mod judge;
-mod kept;
 mod marks;
 mod renew;
 mod running;
@@ -11,7 +9,6 @@ mod running;
 pub use comparing::compare;
 pub use copying::copy;
 pub use editing::edit;
-pub use judge::room;
 pub use renew::LIMIT;
 pub use running::fresh;
 pub use running::refused;

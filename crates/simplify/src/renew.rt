@@ -3,7 +3,7 @@ ghost use mathlib.Core.Path.{_≡_};
 ghost use mathlib.Core.Bool.{not, _&&_};
 ghost use Rattle.term.specs.Term.{isRead};
 ghost use Rattle.term.specs.Bytes.{look};
-ghost use Rattle.simplify.specs.Judge.{Placed, Both};
+ghost use Rattle.judge.specs.Judge.{Placed, Both};
 ghost use Rattle.simplify.specs.Renew.{CanTurn, Turned, CanRenew, Renewed};
 use crate::marks::is_marked;
 use crate::marks::one_if;

@@ -5,7 +5,6 @@ ghost use Rattle.simplify.specs.Run.{Ran};
 ghost use Rattle.simplify.specs.Fresh.{CanFresh, Freshly};
 use crate::Answer;
 use crate::copying::copy;
-use crate::judge;
 use crate::renew::renew;
 use row::Row;
 

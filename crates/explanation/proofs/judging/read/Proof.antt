@@ -1,4 +1,4 @@
-use Rattle.simplify.proofs.Judged.{rows-refused, rows-onward}
+use Rattle.judge.proofs.Judged.{rows-refused, rows-onward}
 use Rattle.explanation.proofs.Judged.{row-place, no-read, is-read}
 use borrow.Author.Needs.{needs}
 use Rattle.explanation.proofs.judging.read.Statement.{statement}

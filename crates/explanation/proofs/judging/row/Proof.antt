@@ -1,4 +1,4 @@
-use Rattle.simplify.proofs.Judged.{header-there}
+use Rattle.judge.proofs.Judged.{header-there}
 use Rattle.explanation.proofs.Judged.{row-room, row-beyond, row-fine}
 use borrow.Author.Needs.{needs}
 use Rattle.explanation.proofs.judging.row.Statement.{statement}

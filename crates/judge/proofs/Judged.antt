@@ -1,0 +1,163 @@
+-- Each way out of the functions that judge: the number answered is that of the first reason that holds.
+use Prim.Native.Nat.{ℕ, _+_, _≤_, _<_}
+use mathlib.Core.Path.{_≡_, refl, ap, sym, _∙_}
+use mathlib.Core.Bool.{Bool, true, false, not}
+use mathlib.Core.List.{List, [], _∷_, _++_}
+use lib.ListN.{length}
+use lib.Dec.{leb, eqb}
+use borrow.Author.Tests.{lt-ltb, le-ltb, le-leb, lt-leb, eq-eqb, ne-eqb}
+use Rattle.basis.specs.Reason.{Reason, _when_, first}
+use Rattle.basis.proofs.Pick.{or-true-left, or-true-right, or-false}
+use Rattle.basis.proofs.Reasons.{numbered, append-skips, append-here, first-here, first-skips}
+use Rattle.row.specs.Names.{HEADER, LENGTH, place}
+use Rattle.row.specs.Bytes.{rowAt}
+use Rattle.table.specs.declared.Verdict.{Verdict}
+use Rattle.table.specs.Uses.{ARRAY, sortOf}
+use Rattle.table.specs.Refusals.{rows, refuse, accepted, given, checkRows, headReasons}
+use Rattle.table.proofs.Heads.{long-head, good-head}
+use Rattle.table.proofs.Faulty.{given-passes, given-refuses}
+use Rattle.table.proofs.Exactly.{before-after}
+use Rattle.row.proofs.Places.{room-in}
+use Rattle.term.specs.Term.{isArray}
+use Rattle.term.specs.Bytes.{look}
+use Rattle.term.proofs.Rows.{sort-term}
+use Rattle.judge.specs.Run.{roomReasons, runVerdict}
+use Rattle.judge.specs.Edit.{editReasons, keptWrong, keptVerdict}
+use Rattle.judge.specs.Compare.{pairReasons, arrayReasons, arrayVerdict}
+use Rattle.judge.specs.Judge.{Holding, PairThere, EditThere}
+use Rattle.judge.proofs.Verdicts.{rows-pass, head-numbered}
+use Rattle.judge.proofs.Granted.{room-numbered, roomy}
+
+-- a number that is not 0 is the first of any longer list too
+later : (xs ys : List Reason) {number : ℕ} → number ≡ first xs → (number ≡ 0 → ⊥) → number ≡ first (xs ++ ys)
+later xs ys e h = e ∙ sym (append-here xs ys (λ z. h (e ∙ z)))
+
+-- where it is 0, the reasons that follow decide
+onward : (xs ys : List Reason) {number : ℕ} → numbered xs ≡ true → number ≡ first xs → number ≡ 0 → {answer : ℕ} → first ys ≡ answer → answer ≡ first (xs ++ ys)
+onward xs ys k e z f = sym (append-skips xs ys k (sym e ∙ z) ∙ f)
+
+-- 1 to 6
+module _ (t buffer : List ℕ) {number : ℕ} where
+  pub room-head : number ≡ first (headReasons t) → (number ≡ 0 → ⊥) → number ≡ first (roomReasons t buffer)
+  unfolding roomReasons
+  room-head e h = later (headReasons t) _ e h
+
+  pub room-short : number ≡ first (headReasons t) → number ≡ 0 → length buffer < length t → 6 ≡ first (roomReasons t buffer)
+  unfolding roomReasons
+  room-short e z l = onward (headReasons t) _ (head-numbered t) e z (first-here 6 _ [] (lt-ltb (length buffer) (length t) l))
+
+  pub room-enough : number ≡ first (headReasons t) → number ≡ 0 → length t ≤ length buffer → 0 ≡ first (roomReasons t buffer)
+  unfolding roomReasons first
+  room-enough e z l = onward (headReasons t) _ (head-numbered t) e z (first-skips 6 _ [] (le-ltb (length buffer) (length t) l))
+
+-- a run
+module _ (t buffer : List ℕ) {number : ℕ} where
+  pub run-refused : number ≡ first (roomReasons t buffer) → (number ≡ 0 → ⊥) → _≡_ {A = Verdict} (record { number = number; row = 0 }) (runVerdict t buffer)
+  unfolding runVerdict refuse
+  run-refused e h = ap (λ (n : ℕ). refuse n 0) e ∙ sym (given-refuses (first (roomReasons t buffer)) 0 (checkRows t accepted) (λ z. h (e ∙ z)))
+
+  pub head-passes : number ≡ first (roomReasons t buffer) → number ≡ 0 → first (headReasons t) ≡ 0
+  head-passes e z = roomy t buffer (sym e ∙ z) .head
+
+  pub run-judged : {v : Verdict} → number ≡ first (roomReasons t buffer) → number ≡ 0 → v ≡ checkRows t accepted → v ≡ runVerdict t buffer
+  unfolding runVerdict
+  run-judged e z f = f ∙ sym (given-passes (first (roomReasons t buffer)) 0 (checkRows t accepted) (sym e ∙ z))
+
+-- a table whose head passes has a header
+pub header-there : (t buffer : List ℕ) {number : ℕ} → number ≡ first (roomReasons t buffer) → number ≡ 0 → HEADER ≤ length t
+header-there t buffer e z = long-head t (head-passes t buffer e z)
+
+-- 7 and 8 of an edit
+module _ (t kept : List ℕ) (r : ℕ) (new : List ℕ) {number : ℕ} where
+  pub edit-room : number ≡ first (roomReasons t kept) → (number ≡ 0 → ⊥) → number ≡ first (editReasons t kept r new)
+  unfolding editReasons
+  edit-room e h = later (roomReasons t kept) _ e h
+
+  pub edit-row : number ≡ first (roomReasons t kept) → number ≡ 0 → {n : ℕ} → n ≡ rows t → n ≤ r → 7 ≡ first (editReasons t kept r new)
+  unfolding editReasons
+  edit-row e z is l = onward (roomReasons t kept) _ (room-numbered t kept) e z (first-here 7 _ _ (le-leb (rows t) r (rw is at l)))
+
+  pub edit-long : number ≡ first (roomReasons t kept) → number ≡ 0 → {n : ℕ} → n ≡ rows t → r < n → (length new ≡ LENGTH → ⊥) → 8 ≡ first (editReasons t kept r new)
+  unfolding editReasons
+  edit-long e z is l h =
+      onward (roomReasons t kept) _ (room-numbered t kept) e z
+      (first-skips 7 _ _ (lt-leb (rows t) r (rw is at l)) ∙ first-here 8 _ [] (ap not (ne-eqb (length new) LENGTH h)))
+
+  pub edit-fine : number ≡ first (roomReasons t kept) → number ≡ 0 → {n : ℕ} → n ≡ rows t → r < n → length new ≡ LENGTH → 0 ≡ first (editReasons t kept r new)
+  unfolding editReasons first
+  edit-fine e z is l h =
+      onward (roomReasons t kept) _ (room-numbered t kept) e z
+      (first-skips 7 (leb (rows t) r) (8 when not (eqb (length new) LENGTH) ∷ []) (lt-leb (rows t) r (rw is at l)) ∙
+      first-skips 8 (not (eqb (length new) LENGTH)) [] (ap not (eq-eqb (length new) LENGTH h)))
+
+-- 7 of a comparison
+module _ (t buffer : List ℕ) (x y : ℕ) {number : ℕ} where
+  pub pair-room : number ≡ first (roomReasons t buffer) → (number ≡ 0 → ⊥) → number ≡ first (pairReasons t buffer x y)
+  unfolding pairReasons
+  pair-room e h = later (roomReasons t buffer) _ e h
+
+  pub pair-first : number ≡ first (roomReasons t buffer) → number ≡ 0 → {n : ℕ} → n ≡ rows t → n ≤ x → 7 ≡ first (pairReasons t buffer x y)
+  unfolding pairReasons
+  pair-first e z is l = onward (roomReasons t buffer) _ (room-numbered t buffer) e z (first-here 7 _ [] (or-true-left (leb (rows t) x) (leb (rows t) y) (le-leb (rows t) x (rw is at l))))
+
+  pub pair-second : number ≡ first (roomReasons t buffer) → number ≡ 0 → {n : ℕ} → n ≡ rows t → n ≤ y → 7 ≡ first (pairReasons t buffer x y)
+  unfolding pairReasons
+  pair-second e z is l = onward (roomReasons t buffer) _ (room-numbered t buffer) e z (first-here 7 _ [] (or-true-right (leb (rows t) x) (leb (rows t) y) (le-leb (rows t) y (rw is at l))))
+
+  pub pair-fine : number ≡ first (roomReasons t buffer) → number ≡ 0 → {n : ℕ} → n ≡ rows t → x < n → y < n → 0 ≡ first (pairReasons t buffer x y)
+  unfolding pairReasons first
+  pair-fine e z is l m =
+      onward (roomReasons t buffer) _ (room-numbered t buffer) e z
+      (first-skips 7 _ [] (or-false (leb (rows t) x) (leb (rows t) y) (lt-leb (rows t) x (rw is at l)) (lt-leb (rows t) y (rw is at m))))
+
+pub array-told : (t : List ℕ) (x : ℕ) {kind : ℕ} {b : Bool} → kind ≡ rowAt t x .kind → b ≡ eqb (sortOf kind) ARRAY → b ≡ isArray (look t x)
+unfolding look
+array-told t x e f = f ∙ ap (λ (k : ℕ). eqb (sortOf k) ARRAY) e ∙ sym (sort-term (rowAt t x))
+
+-- ---- 14 of a comparison, 16 of an edit
+
+accepted-number : accepted .number ≡ 0
+unfolding accepted refuse
+accepted-number = refl
+
+module _ (t : List ℕ) {v : Verdict} (scanned : v ≡ checkRows t accepted) where
+  -- a faulty row stops the check, whatever comes after
+  pub rows-refused : (after : Verdict) → (v .number ≡ 0 → ⊥) → v ≡ checkRows t after
+  rows-refused after h =
+      scanned ∙ sym (before-after t after (λ e. h (ap (λ (u : Verdict). u .number) (scanned ∙ e) ∙ accepted-number)))
+
+  -- where no row is faulty, what comes after is the verdict
+  pub rows-onward : {after answer : Verdict} → v .number ≡ 0 → answer ≡ after → answer ≡ checkRows t after
+  rows-onward {after} e f =
+      f ∙ sym (rows-pass t accepted after (ap (λ (u : Verdict). u .number) (sym scanned) ∙ e))
+
+module _ (t : List ℕ) (x y : ℕ) where
+  pub first-array : {b : Bool} → b ≡ isArray (look t x) → b ≡ true → _≡_ {A = Verdict} (record { number = 14; row = x }) (arrayVerdict t x y)
+  unfolding arrayVerdict arrayReasons given refuse first
+  first-array e h = sym (rw (sym e ∙ h))
+
+  pub second-array : {b c : Bool} → b ≡ isArray (look t x) → b ≡ false → c ≡ isArray (look t y) → c ≡ true → _≡_ {A = Verdict} (record { number = 14; row = y }) (arrayVerdict t x y)
+  unfolding arrayVerdict arrayReasons given refuse first
+  second-array e h f i = sym (rw (sym e ∙ h, sym f ∙ i))
+
+  pub no-array : {b c : Bool} → b ≡ isArray (look t x) → b ≡ false → c ≡ isArray (look t y) → c ≡ false → _≡_ {A = Verdict} (record { number = 0; row = 0 }) (arrayVerdict t x y)
+  unfolding arrayVerdict arrayReasons given accepted refuse first
+  no-array e h f i = sym (rw (sym e ∙ h, sym f ∙ i))
+
+module _ (t part : List ℕ) {b : Bool} (told : b ≡ keptWrong t part) where
+  pub kept-refused : b ≡ true → _≡_ {A = Verdict} (record { number = 16; row = 0 }) (keptVerdict t part)
+  unfolding keptVerdict given refuse first
+  kept-refused e = sym (rw (sym told ∙ e))
+
+  pub kept-passes : b ≡ false → _≡_ {A = Verdict} (record { number = 0; row = 0 }) (keptVerdict t part)
+  unfolding keptVerdict given accepted refuse first
+  kept-passes e = sym (rw (sym told ∙ e))
+
+pub pair-place : {t : List ℕ} {x y : ℕ} → PairThere t x y → place x + LENGTH ≤ length t
+pair-place {t} at = room-in t (at .first-row) (good-head t (at .head) .size)
+
+pub pair-place-second : {t : List ℕ} {x y : ℕ} → PairThere t x y → place y + LENGTH ≤ length t
+pair-place-second {t} at = room-in t (at .second-row) (good-head t (at .head) .size)
+
+pub edit-holding : {t kept : List ℕ} → EditThere t kept → Holding t kept
+edit-holding {t} at = record { size = good-head t (at .head) .size; room = at .room }

@@ -1,0 +1,5 @@
+-- Laws of this crate.
+pub mod Verdicts
+pub mod Granted
+pub mod Judged
+pub mod KeptJudged

@@ -1,0 +1,10 @@
+// Which refusal an input gets: document 01's table of refusals, in its order.
+mod calls;
+mod kept;
+
+pub use calls::edit;
+pub use calls::edited;
+pub use calls::pair;
+pub use calls::room;
+pub use calls::run;
+pub use calls::words;
