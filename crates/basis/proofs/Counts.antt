@@ -1,9 +1,9 @@
 -- Counting the rows that pass a test, and whether one does. Assumes nothing.
-use mathlib.Core.Path.{_≡_, refl, ap₂, sym, _∙_}
+use mathlib.Core.Path.{_≡_, refl, ap, ap₂, sym, _∙_}
 use mathlib.Core.Bool.{Bool, true, false, cond, true≢false}
 use mathlib.Core.Logic.{dite}
 use Prim.Native.Nat.{ℕ, zero, suc, _+_, _≤_, _<_}
-use native.Mathlib.Nat.{le-refl}
+use native.Mathlib.Nat.{le-refl, add-zero, add-suc, add-assoc}
 use native.Mathlib.Numerals.{add-one}
 use native.Mathlib.Omega.{arith}
 use native.Mathlib.Decide.{decLt}
@@ -14,6 +14,15 @@ use Rattle.basis.proofs.Pick.{test-case, pick-case, or-true-left, or-tr
 pub count-next : (test : ℕ → Bool) (n : ℕ) → countWhere test (n + 1) ≡ countWhere test n + cond (test n) 1 0
 unfolding countWhere
 count-next test n = rw add-one
+
+-- m rows, and n more
+pub count-add : (test : ℕ → Bool) (m n : ℕ) → countWhere test (m + n) ≡ countWhere test m + countWhere (λ x. test (m + x)) n
+unfolding countWhere
+count-add test m zero = ap (countWhere test) (add-zero m) ∙ sym (add-zero (countWhere test m))
+count-add test m (suc n) =
+    ap (countWhere test) (add-suc m n) ∙
+    ap (λ (k : ℕ). k + cond (test (m + n)) 1 0) (count-add test m n) ∙
+    add-assoc (countWhere test m) (countWhere (λ x. test (m + x)) n) (cond (test (m + n)) 1 0)
 
 pub count-same : (s t : ℕ → Bool) (n : ℕ) → ((x : ℕ) → x < n → s x ≡ t x) → countWhere s n ≡ countWhere t n
 unfolding countWhere

@@ -45,6 +45,10 @@ pub and-case {κ} : {C : Type κ} (s t : Bool) → (s && t) ≡ false → (s ≡
 and-case true t e p q = q e
 and-case false t e p q = p refl
 
+pub or-none : (t : Bool) → (t || false) ≡ t
+or-none true = refl
+or-none false = refl
+
 pub or-true-left : (s t : Bool) → s ≡ true → (s || t) ≡ true
 or-true-left s t p = rw p
 

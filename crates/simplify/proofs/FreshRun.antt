@@ -1,10 +1,10 @@
 -- A fresh run: what its parts ask, and that what they leave is what the public promise says.
-use Prim.Native.Nat.{ℕ, _^_, _≤_, _<_}
+use Prim.Native.Nat.{ℕ, _^_, _≤_, _<_, _-_}
 use native.Mathlib.Omega.{arith}
 use mathlib.Core.Path.{_≡_, refl, ap, ap₂, sym, _∙_}
 use mathlib.Core.Bool.{true, false, true≢false}
 use mathlib.Core.List.{List}
-use lib.ListN.{length, take, replicate, getD-replicate}
+use lib.ListN.{length, take, replicate}
 use lib.Seq.{sets, length-sets}
 use lib.Dec.{eqb}
 use borrow.Author.Tests.{ne-eqb}
@@ -21,6 +21,8 @@ use Rattle.term.proofs.Names.{NamesBelow}
 use Rattle.term.proofs.Placed.{length-put-rows}
 use Rattle.term.proofs.WellFormed.{formed-below}
 use Rattle.term.proofs.Accepted.{accepted-formed}
+use Rattle.marks.specs.Marks.{marked}
+use Rattle.marks.proofs.Marks.{all-marked}
 use Rattle.judge.specs.Verdict.{isAccepted}
 use Rattle.judge.specs.Run.{runVerdict}
 use Rattle.judge.proofs.Verdicts.{accepted-is}
@@ -28,7 +30,7 @@ use Rattle.judge.proofs.Granted.{RunGranted, run-granted}
 use Rattle.simplify.specs.declared.Answer.{Answer}
 use Rattle.simplify.specs.Answer.{modulus, answer, answered}
 use Rattle.simplify.specs.Copy.{Rooms}
-use Rattle.simplify.specs.Renew.{marked, CanRenew, Renewed}
+use Rattle.simplify.specs.Renew.{CanRenew, Renewed}
 use Rattle.simplify.specs.Run.{freshRows, freshBytes, runAnswer, runResult, Ran}
 use Rattle.simplify.specs.Fresh.{CanFresh, Freshly}
 use Rattle.simplify.proofs.Outcome.{outcome-is, ranges-are, bytes-are, removed-is}
@@ -37,9 +39,8 @@ use Rattle.simplify.proofs.Outcome.{outcome-is, ranges-are, bytes-are, 
 pub record AllMarked (marks : List ℕ) : Type 0 where
   pub all : (x : ℕ) → x < 1024 → marked marks x ≡ true
 
-pub all-ones : AllMarked (replicate 1024 1)
-unfolding marked
-all-ones = record { all = λ x l. ap (λ (v : ℕ). eqb v 1) (getD-replicate 1024 x 1 0 l) }
+pub all-ones : AllMarked (replicate 16 (2 ^ 64 - 1))
+all-ones = record { all = all-marked }
 
 module _ (t buffer store : List ℕ) (can : CanFresh t buffer store) where
   ok : Accepted t

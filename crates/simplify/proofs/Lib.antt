@@ -1,7 +1,6 @@
 -- Laws of this crate.
 pub mod Copied
 pub mod Granted
-pub mod Marking
 pub mod Renewing
 pub mod Turning
 pub mod Outcome

@@ -14,8 +14,9 @@ use Rattle.term.proofs.Names.{names-widen}
 use Rattle.term.proofs.Local.{range-local}
 use Rattle.term.proofs.Renewed.{KeptBelow, renewed-only-below}
 use Rattle.term.proofs.Placed.{put-rows-same}
+use Rattle.marks.specs.Marks.{marked}
 use Rattle.simplify.specs.Answer.{LIMIT}
-use Rattle.simplify.specs.Renew.{marked, standing, outcome, CanRenew}
+use Rattle.simplify.specs.Renew.{standing, outcome, CanRenew}
 use Rattle.simplify.proofs.Renewing.{out-eq, out-below}
 
 -- removed is counted alike over rows that agree

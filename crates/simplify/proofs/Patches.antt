@@ -4,7 +4,7 @@ use native.Mathlib.Nat.{le-refl}
 use mathlib.Core.Path.{_≡_, ap₂, sym, subst, _∙_}
 use mathlib.Core.Bool.{false, not, _||_}
 use mathlib.Core.List.{List}
-use lib.ListN.{length, replicate, length-replicate}
+use lib.ListN.{length, replicate}
 use lib.Dec.{lit<}
 use borrow.Author.Tests.{eqb-true, not-false}
 use Rattle.basis.proofs.Pick.{or-left, or-right}
@@ -22,12 +22,14 @@ use Rattle.term.proofs.Names.{NamesBelow}
 use Rattle.term.proofs.WellFormed.{formed-below}
 use Rattle.term.proofs.Looked.{cut-look}
 use Rattle.term.proofs.Accepted.{accepted-formed}
+use Rattle.marks.specs.Marks.{marked}
+use Rattle.marks.specs.Touched.{CanMark, Marked}
+use Rattle.marks.proofs.Marks.{none-words, none-marked}
 use Rattle.judge.specs.Verdict.{isAccepted}
 use Rattle.judge.specs.Edit.{keptPart, otherHeader, otherSorts, keptWrong}
 use Rattle.judge.proofs.Verdicts.{accepted-only}
 use Rattle.simplify.specs.Answer.{modulus, answer}
-use Rattle.simplify.specs.Renew.{marked, CanRenew, Renewed}
-use Rattle.simplify.specs.Marks.{CanMark, Marked}
+use Rattle.simplify.specs.Renew.{CanRenew, Renewed}
 use Rattle.simplify.specs.Edit.{editedRows, editedBytes, touchedRows}
 use Rattle.simplify.specs.Patch.{CanPatch, Patched}
 use Rattle.simplify.proofs.FreshRun.{answer-is}
@@ -66,8 +68,8 @@ module _ (t kept : List ℕ) (r : ℕ) (can : CanPatch t kept r) where
   part-below = formed-below (2 ^ width t) (look part) part-formed
 
   module _ {n : ℕ} (rows-is : Read (rows t) 65536 n) where
-    pub patch-marks : CanMark t n (replicate 1024 0)
-    patch-marks = record { ok = ok; few = rows-is .is; long = length-replicate {A = ℕ} 1024 0 }
+    pub patch-marks : CanMark t n (replicate 16 0)
+    patch-marks = record { ok = ok; few = rows-is .is; words = none-words; none = none-marked }
 
     module _ {marks : List ℕ} {count w : ℕ} (done : Marked t r n marks count) (width-is : Read (width t) 256 w) where
       marks-are : (x : ℕ) → x < rows t → marked marks x ≡ touchedBy (look t) r x

@@ -32,8 +32,9 @@ use Rattle.term.proofs.Renewed.{KeptBelow, renewed-eq, renewed-below}
 use Rattle.term.proofs.Placed.{length-put-rows, put-if-other, put-rows-above, put-rows-next}
 use Rattle.rules.specs.Ready.{Standing, Ranged}
 use Rattle.rules.specs.Written.{source, settled, becomes, CanWrite, Written}
+use Rattle.marks.specs.Marks.{marked}
 use Rattle.simplify.specs.Answer.{LIMIT}
-use Rattle.simplify.specs.Renew.{marked, standing, outcome, CanRenew, Renewed}
+use Rattle.simplify.specs.Renew.{standing, outcome, CanRenew, Renewed}
 
 -- R and S are the result and the ranges after r rounds, which began with R₀
 pub record Renewing (T R₀ marks : List ℕ) (w n r : ℕ) (R S : List ℕ) (removed : ℕ) : Type 0 where

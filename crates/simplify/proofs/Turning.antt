@@ -17,10 +17,10 @@ use Rattle.term.specs.Result.{removedRows}
 use Rattle.term.specs.Bytes.{look}
 use Rattle.term.proofs.Placed.{length-put-if}
 use Rattle.rules.specs.Written.{settled, CanWrite, Written}
+use Rattle.marks.specs.Marks.{marked}
 use Rattle.judge.specs.Judge.{Both}
 use Rattle.simplify.specs.Answer.{LIMIT}
-use Rattle.simplify.specs.Renew.{marked, outcome, CanTurn, Turned, CanRenew}
-use Rattle.simplify.proofs.Marking.{at-most}
+use Rattle.simplify.specs.Renew.{outcome, CanTurn, Turned, CanRenew}
 use Rattle.simplify.proofs.Renewing.{Renewing, can-write, turned}
 
 -- a READ is told by its kind
@@ -48,6 +48,10 @@ module _ (t result : List ℕ) (x : ℕ) {b : Bool} (first : b ≡ isRead (look 
 
   pub removed-none : b ≡ false → false ≡ (isRead (look t x) && not (isRead (look result x)))
   removed-none e = sym (rw (sym first ∙ e))
+
+at-most : (b : Bool) → cond b 1 0 ≤ 1
+at-most true = omega arith
+at-most false = omega arith
 
 -- ---- a turn
 

@@ -1,7 +1,6 @@
 -- The public promises: what run, edit and compare answer, and what they leave in each lent buffer, for every input.
 pub mod Answer
 pub mod Renew
-pub mod Marks
 pub mod Copy
 pub mod Run
 pub mod Fresh

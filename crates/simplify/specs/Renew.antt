@@ -3,8 +3,8 @@ use Prim.Native.Nat.{ℕ, _^_, _≤_, _<_}
 use mathlib.Core.Path.{_≡_}
 use mathlib.Core.Bool.{Bool, false, cond, not, _&&_}
 use mathlib.Core.List.{List}
-use lib.ListN.{length, getD}
-use lib.Dec.{ltb, eqb}
+use lib.ListN.{length}
+use lib.Dec.{ltb}
 use Rattle.range.specs.Store.{kept}
 use Rattle.row.specs.Names.{place}
 use Rattle.table.specs.Refusals.{MOST}
@@ -13,12 +13,9 @@ use Rattle.term.specs.Relation.{rangeOf}
 use Rattle.term.specs.Result.{renewed, removedRows}
 use Rattle.term.specs.WellFormed.{Fits, Names}
 use Rattle.term.specs.Bytes.{look, putRows}
+use Rattle.marks.specs.Marks.{marked}
 use Rattle.rules.specs.Written.{CanWrite, Written}
 use Rattle.simplify.specs.Answer.{LIMIT}
-
--- row x is marked
-unfoldable pub marked : List ℕ → ℕ → Bool
-marked marks x = eqb (getD marks x 0) 1
 
 -- the first n rows that stand in a buffer
 unfoldable pub standing : List ℕ → ℕ → ℕ → Term

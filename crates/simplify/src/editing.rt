@@ -6,7 +6,6 @@ ghost use Rattle.simplify.specs.Edit.{edited, Edited};
 ghost use Rattle.simplify.specs.Patch.{CanTake, CanPut, CanPatch, Patched};
 use crate::Answer;
 use crate::copying::copy;
-use crate::marks;
 use crate::renew::renew;
 use crate::running::refused;
 use row::Row;
@@ -33,8 +32,8 @@ fn patch(table: &[u8], kept: &mut [u8], r: usize) -> Answer
     ensures { λ answer. ⌜ Patched (now (table .entry)) (now (kept .entry)) r answer (now (kept .exit)) ⌝ }
 {
     let n = table::rows_of(table);
-    let mut marks = [0u8; 1024];
-    let touched = marks::mark(table, n, r, &mut marks);
+    let mut marks = [0u64; 16];
+    let touched = marks::mark_touched(table, n, r, &mut marks);
     let mut store = [0u64; 2048];
     let removed = renew(table, kept, &mut store, &marks, table::width_of(table), n);
     Answer {

@@ -2,7 +2,6 @@
 mod comparing;
 mod copying;
 mod editing;
-mod marks;
 mod renew;
 mod running;
 

@@ -1,12 +1,10 @@
 // The loop that run and edit share: each marked row is worked out anew, in ascending order, from the result rows then standing.
 ghost use mathlib.Core.Path.{_≡_};
-ghost use mathlib.Core.Bool.{not, _&&_};
+ghost use mathlib.Core.Bool.{cond, not, _&&_};
 ghost use Rattle.term.specs.Term.{isRead};
 ghost use Rattle.term.specs.Bytes.{look};
 ghost use Rattle.judge.specs.Judge.{Placed, Both};
 ghost use Rattle.simplify.specs.Renew.{CanTurn, Turned, CanRenew, Renewed};
-use crate::marks::is_marked;
-use crate::marks::one_if;
 use row::Row;
 
 // The stores that a read compares at most.
@@ -31,19 +29,29 @@ fn is_removed(table: &[u8], result: &[u8], x: usize) -> bool
     false
 }
 
+// 1 where a test passed, else 0.
+fn one_if(passed: bool) -> u64
+    ensures { λ r. ⌜ r ≡ cond passed 1 0 ⌝ }
+{
+    if passed {
+        return 1;
+    }
+    0
+}
+
 // Settles result row r and its range, and answers 1 where it is no READ any more.
 fn turn(
     table: &[u8],
     result: &mut [u8],
     store: &mut [u64; 2048],
-    marks: &[u8; 1024],
+    marks: &[u64; 16],
     w: u32,
     r: usize,
 ) -> u64
     requires { ⌜ CanTurn (now table) (now result) (now store) (now marks) w r ⌝ }
     ensures { λ one. ⌜ Turned (now (table .entry)) (now (result .entry)) (now (result .exit)) (now (store .entry)) (now (store .exit)) (now (marks .entry)) w r one ⌝ }
 {
-    rules::write_row(table, result, store, w, LIMIT, r, is_marked(marks, r));
+    rules::write_row(table, result, store, w, LIMIT, r, marks::is_marked(marks, r));
     one_if(is_removed(table, result, r))
 }
 
@@ -52,7 +60,7 @@ pub fn renew(
     table: &[u8],
     result: &mut [u8],
     store: &mut [u64; 2048],
-    marks: &[u8; 1024],
+    marks: &[u64; 16],
     w: u32,
     n: usize,
 ) -> u64

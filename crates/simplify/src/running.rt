@@ -25,7 +25,7 @@ pub fn fresh(table: &[u8], result: &mut [u8], store: &mut [u64; 2048]) -> u64
     requires { ⌜ CanFresh (now table) (now result) (now store) ⌝ }
     ensures { λ removed. ⌜ Freshly (now (table .entry)) (now (result .entry)) (now (result .exit)) (now (store .exit)) removed ⌝ }
 {
-    let marks = [1u8; 1024];
+    let marks = [u64::MAX; 16];
     copy(table, 0, Row::HEADER, result, 0);
     renew(
         table,

@@ -1,7 +1,7 @@
 use borrow.Author.Needs.{needs}
-use Rattle.simplify.proofs.Marking.{field-unused, field-mark, field-used}
-use Rattle.simplify.proofs.marks.field_marked.Statement.{statement}
-use Rattle.simplify.proofs.marks.field_marked.Tie as tie
+use Rattle.marks.proofs.Marking.{field-unused, field-mark, field-used}
+use Rattle.marks.proofs.touched.field_marked.Statement.{statement}
+use Rattle.marks.proofs.touched.field_marked.Tie as tie
 
 returns : tie.Need-returns
 returns c = field-unused _ _ (search needs)

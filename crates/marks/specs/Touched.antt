@@ -1,9 +1,9 @@
 -- Marking the rows that an edit touches. T are the bytes of the edited table, r is the row that was replaced, n the row count.
 use Prim.Native.Nat.{ℕ, _+_, _≤_, _<_}
 use mathlib.Core.Path.{_≡_}
-use mathlib.Core.Bool.{Bool, cond}
+use mathlib.Core.Bool.{false}
 use mathlib.Core.List.{List}
-use lib.ListN.{length, set}
+use lib.ListN.{length}
 use Rattle.basis.specs.Count.{countWhere}
 use Rattle.row.specs.declared.Row.{Row}
 use Rattle.row.specs.Names.{LENGTH, place}
@@ -15,7 +15,7 @@ use Rattle.term.specs.Term.{termOf}
 use Rattle.term.specs.WellFormed.{Names}
 use Rattle.term.specs.Result.{touchedBy}
 use Rattle.term.specs.Bytes.{look}
-use Rattle.simplify.specs.Renew.{marked}
+use Rattle.marks.specs.Marks.{marked, onesOf, Words}
 
 -- a reference field that is used names a row that has a mark
 pub record HasMark (used x : ℕ) : Type 0 where
@@ -32,17 +32,15 @@ pub record Reached (T : List ℕ) (x : ℕ) : Type 0 where
   pub room : place x + LENGTH ≤ length T
   pub named : Named (rowAt T x)
 
--- an accepted table of n rows, and marks for as many as there can be
+-- an accepted table of n rows, and marks of which none is set
 pub record CanMark (T : List ℕ) (n : ℕ) (marks : List ℕ) : Type 0 where
   pub ok : Accepted T
   pub few : n ≡ rows T
-  pub long : length marks ≡ MOST
+  pub words : Words marks
+  pub none : (x : ℕ) → x < MOST → marked marks x ≡ false
 
--- the marks with that of row x set, or taken away
-unfoldable pub remarked : List ℕ → ℕ → Bool → List ℕ
-remarked marks x mark = set marks x (cond mark 1 0)
-
--- the touched rows among the first n are marked, and there are `count`
+-- the touched rows among the first n are marked, and there are `count`, the ones of the sixteen words
 pub record Marked (T : List ℕ) (r n : ℕ) (marks : List ℕ) (count : ℕ) : Type 0 where
   pub marks-are : (x : ℕ) → x < n → marked marks x ≡ touchedBy (look T) r x
+  pub ones-are : count ≡ onesOf marks 16
   pub counted : count ≡ countWhere (touchedBy (look T) r) n

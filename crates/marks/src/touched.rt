@@ -1,38 +1,20 @@
-// The rows that are worked out anew: a mark for each row.
+// Row r and the rows that lead back to it: each row is marked that is r or names a marked row.
 ghost use mathlib.Core.Path.{_≡_};
-ghost use mathlib.Core.Bool.{cond, _&&_, _||_};
-ghost use Prim.Native.Nat.{_<_};
+ghost use mathlib.Core.Bool.{_&&_, _||_};
 ghost use lib.Dec.{eqb};
 ghost use Rattle.table.specs.Refusals.{isUsed};
 ghost use Rattle.term.specs.Term.{termOf, anyNamed};
 ghost use Rattle.term.specs.Bytes.{look};
-ghost use Rattle.simplify.specs.Renew.{marked};
-ghost use Rattle.simplify.specs.Marks.{HasMark, Named, Reached, remarked, CanMark, Marked};
+ghost use Rattle.marks.specs.Marks.{marked};
+ghost use Rattle.marks.specs.Touched.{HasMark, Named, Reached, CanMark, Marked};
+use super::bits::count;
+use super::bits::is_marked;
+use super::bits::mark_if;
 use row::Row;
 use table::Uses;
 
-// Whether row x is marked.
-pub fn is_marked(marks: &[u8; 1024], x: usize) -> bool
-    requires { ⌜ x < 1024 ⌝ }
-    ensures { λ r. ⌜ r ≡ marked (now (marks .entry)) x ⌝ }
-{
-    marks[x] == 1
-}
-
-// Marks row x, or takes its mark away.
-fn remark(marks: &mut [u8; 1024], x: usize, mark: bool)
-    requires { ⌜ x < 1024 ⌝ }
-    ensures { λ _. ⌜ now (marks .exit) ≡ remarked (now (marks .entry)) x mark ⌝ }
-{
-    if mark {
-        marks[x] = 1;
-        return;
-    }
-    marks[x] = 0;
-}
-
 // Whether a reference field with the given use names a marked row.
-fn field_marked(marks: &[u8; 1024], used: u8, x: usize) -> bool
+fn field_marked(marks: &[u64; 16], used: u8, x: usize) -> bool
     requires { ⌜ HasMark used x ⌝ }
     ensures { λ r. ⌜ r ≡ (isUsed used && marked (now (marks .entry)) x) ⌝ }
 {
@@ -43,7 +25,7 @@ fn field_marked(marks: &[u8; 1024], used: u8, x: usize) -> bool
 }
 
 // Whether x, a row of a table, names a marked row.
-fn names_marked(marks: &[u8; 1024], x: Row) -> bool
+fn names_marked(marks: &[u64; 16], x: Row) -> bool
     requires { ⌜ Named x ⌝ }
     ensures { λ r. ⌜ r ≡ anyNamed (marked (now (marks .entry))) (termOf x) ⌝ }
 {
@@ -58,7 +40,7 @@ fn names_marked(marks: &[u8; 1024], x: Row) -> bool
 }
 
 // Whether row x of a table is r or names a marked row.
-fn touches(t: &[u8], marks: &[u8; 1024], r: usize, x: usize) -> bool
+fn touches(t: &[u8], marks: &[u64; 16], r: usize, x: usize) -> bool
     requires { ⌜ Reached (now t) x ⌝ }
     ensures { λ b. ⌜ b ≡ (eqb x r || anyNamed (marked (now (marks .entry))) (look (now (t .entry)) x)) ⌝ }
 {
@@ -68,28 +50,15 @@ fn touches(t: &[u8], marks: &[u8; 1024], r: usize, x: usize) -> bool
     names_marked(marks, Row::decode(t, x))
 }
 
-// 1 where a test passed, else 0.
-pub fn one_if(passed: bool) -> u64
-    ensures { λ r. ⌜ r ≡ cond passed 1 0 ⌝ }
-{
-    if passed {
-        return 1;
-    }
-    0
-}
-
 // Marks row r of a table of n rows and the rows that lead back to it, and answers how many there are.
-pub fn mark(t: &[u8], n: usize, r: usize, marks: &mut [u8; 1024]) -> u64
+pub fn mark_touched(t: &[u8], n: usize, r: usize, marks: &mut [u64; 16]) -> u64
     requires { ⌜ CanMark (now t) n (now marks) ⌝ }
     ensures { λ count. ⌜ Marked (now (t .entry)) r n (now (marks .exit)) count ⌝ }
 {
-    let mut count = 0;
     let mut x = 0;
     while x < n {
-        let touched = touches(t, marks, r, x);
-        remark(marks, x, touched);
-        count += one_if(touched);
+        mark_if(marks, x, touches(t, marks, r, x));
         x += 1;
     }
-    count
+    count(marks)
 }

@@ -1,19 +1,16 @@
 -- Marking: what a row names, by the fields that its kind uses; and the loop, after which the touched rows are marked.
 use Prim.Native.Nat.{ℕ, _+_, _≤_, _<_}
+use native.Mathlib.Nat.{le-refl}
 use native.Mathlib.Omega.{arith}
 use native.Mathlib.Decide.{decLt}
-use mathlib.Core.Path.{_≡_, refl, ap, ap₂, sym, _∙_}
-use mathlib.Core.Bool.{Bool, true, false, cond, _&&_, _||_}
+use mathlib.Core.Path.{_≡_, refl, ap, sym, _∙_}
+use mathlib.Core.Bool.{Bool, true, false, _&&_, _||_}
 use mathlib.Core.Logic.{dite}
 use mathlib.Core.List.{List}
-use lib.ListN.{length, getD, set, length-set}
-use lib.Seq.{getD-set-same, getD-set-other}
 use lib.Dec.{eqb}
 use borrow.Author.Tests.{eq-eqb, ne-eqb}
-use mir.Syntax.{w64}
-use mir.Val.{Fits}
-use Rattle.basis.specs.Count.{countWhere}
-use Rattle.basis.proofs.Counts.{count-next, count-most}
+use Rattle.basis.proofs.Pick.{or-none}
+use Rattle.basis.proofs.Counts.{count-same}
 use Rattle.row.specs.declared.Row.{Row}
 use Rattle.row.specs.Bytes.{row, rowAt, Decoded}
 use Rattle.row.proofs.Places.{room-in}
@@ -29,14 +26,11 @@ use Rattle.term.proofs.Names.{NamesBelow, names-widen, any-named-local}
 use Rattle.term.proofs.WellFormed.{formed-below}
 use Rattle.term.proofs.Touched.{touched-eq}
 use Rattle.term.proofs.Accepted.{accepted-formed}
-use Rattle.simplify.specs.Renew.{marked}
-use Rattle.simplify.specs.Marks.{HasMark, Named, Reached, CanMark, remarked, Marked}
+use Rattle.marks.specs.Marks.{marked, onesOf, Words, HasBit, Remarked}
+use Rattle.marks.specs.Touched.{HasMark, Named, Reached, CanMark, Marked}
+use Rattle.marks.proofs.Marks.{mark-here, mark-there, ones-below}
 
 -- ---- what a row names
-
-or-none : (b : Bool) → b || false ≡ b
-or-none true = refl
-or-none false = refl
 
 -- one of the used fields passes
 abbrev anyUsed : (ℕ → Bool) → Uses → Row → Bool
@@ -142,48 +136,21 @@ module _ (t marks : List ℕ) (r x : ℕ) where
 pub decoded-named : (t : List ℕ) (x : ℕ) (y : Row) → Reached t x → Decoded t x y → Named y
 decoded-named t x y at d = rw (d .is) (at .named)
 
-pub is-marked : (marks : List ℕ) (x : ℕ) → eqb (getD marks x 0) 1 ≡ marked marks x
-unfolding marked
-is-marked marks x = refl
-
-pub mark-set : (marks : List ℕ) (x : ℕ) {b : Bool} → b ≡ true → set marks x 1 ≡ remarked marks x b
-unfolding remarked
-mark-set marks x e = rw e
-
-pub mark-taken : (marks : List ℕ) (x : ℕ) {b : Bool} → b ≡ false → set marks x 0 ≡ remarked marks x b
-unfolding remarked
-mark-taken marks x e = rw e
-
-flag : (b : Bool) → eqb (cond b 1 0) 1 ≡ b
-flag true = refl
-flag false = refl
-
-pub at-most : (b : Bool) → cond b 1 0 ≤ 1
-at-most true = omega arith
-at-most false = omega arith
-
 -- ---- the loop
 
--- the first x rows are marked as they are touched
-pub record MarkedSoFar (T : List ℕ) (r n x : ℕ) (marks : List ℕ) (count : ℕ) : Type 0 where
+-- the first x rows are marked as they are touched, and no row from x on
+pub record MarkedSoFar (T : List ℕ) (r n x : ℕ) (marks : List ℕ) : Type 0 where
   pub some : x ≤ n
-  pub long : length marks ≡ 1024
+  pub words : Words marks
   pub marks-are : (y : ℕ) → y < x → marked marks y ≡ touchedBy (look T) r y
-  pub counted : count ≡ countWhere (touchedBy (look T) r) x
+  pub none : (y : ℕ) → x ≤ y → y < 1024 → marked marks y ≡ false
 
-pub marks-begun : (T : List ℕ) (r n : ℕ) (marks : List ℕ) → CanMark T n marks → MarkedSoFar T r n 0 marks 0
-unfolding countWhere
-marks-begun T r n marks can = record { some = omega arith; long = can .long; marks-are = λ y h. absurd (omega arith); counted = refl }
+pub marks-begun : (T : List ℕ) (r n : ℕ) (marks : List ℕ) → CanMark T n marks → MarkedSoFar T r n 0 marks
+marks-begun T r n marks can = record { some = omega arith; words = can .words; marks-are = λ y h. absurd (omega arith); none = λ y h l. can .none y l }
 
 module _ (T : List ℕ) (n : ℕ) (marks₀ : List ℕ) (can : CanMark T n marks₀) where
   few : n ≤ 1024
   few = let h : rows T ≤ MOST = can .ok .head .few in omega (arith, can .few)
-
-  pub mark-room : {x : ℕ} → x < n → x < 1024
-  mark-room l = omega (arith, few)
-
-  pub count-fits : {r x : ℕ} {marks : List ℕ} {count one : ℕ} (b : Bool) → MarkedSoFar T r n x marks count → x < n → one ≡ cond b 1 0 → Fits w64 (count + one)
-  count-fits {r} {x} {one = one} b so l e = let h : one ≤ 1 = rw e (at-most b) in record { fits = omega (arith, so .counted, count-most (touchedBy (look T) r) x, few) }
 
   pub mark-reached : {x : ℕ} → x < n → Reached T x
   unfolding look
@@ -198,42 +165,50 @@ module _ (T : List ℕ) (n : ℕ) (marks₀ : List ℕ) (can : CanMark T n marks
         };
       }
 
-  module _ {r x : ℕ} {marks : List ℕ} {count : ℕ} (so : MarkedSoFar T r n x marks count) (l : x < n)
-      {b : Bool} (test : b ≡ (eqb x r || anyNamed (marked marks) (look T x))) {marks′ : List ℕ} (set-is : marks′ ≡ remarked marks x b) where
-    below : NamesBelow (look T)
-    below = formed-below _ (look T) (accepted-formed T (can .ok))
+  module _ {r x : ℕ} {marks : List ℕ} (so : MarkedSoFar T r n x marks) where
+    pub mark-room : x < n → HasBit marks x
+    mark-room l = record { words = so .words; below = omega (arith, few) }
 
-    told : b ≡ touchedBy (look T) r x
-    told =
-        test ∙
-        ap (λ (c : Bool). eqb x r || c) (any-named-local (marked marks) (touchedBy (look T) r) (look T x) (names-widen (look T x) (λ s y (h : y < x). so .marks-are y h) (below x))) ∙
-        sym (touched-eq (look T) r below x)
+    module _ (l : x < n) {b : Bool} (test : b ≡ (eqb x r || anyNamed (marked marks) (look T x))) {marks′ : List ℕ} (set-is : Remarked marks x b marks′) where
+      below : NamesBelow (look T)
+      below = formed-below _ (look T) (accepted-formed T (can .ok))
 
-    set-here : marked marks′ x ≡ b
-    unfolding marked remarked
-    set-here =
-        ap (λ (l : List ℕ). eqb (getD l x 0) 1) set-is ∙
-        ap (λ (v : ℕ). eqb v 1) (getD-set-same marks x (cond b 1 0) 0 (rw (so .long) (mark-room l))) ∙ flag b
+      told : b ≡ touchedBy (look T) r x
+      told =
+          test ∙
+          ap (λ (c : Bool). eqb x r || c) (any-named-local (marked marks) (touchedBy (look T) r) (look T x) (names-widen (look T x) (λ s y (h : y < x). so .marks-are y h) (below x))) ∙
+          sym (touched-eq (look T) r below x)
 
-    set-there : (y : ℕ) → y < x → marked marks′ y ≡ marked marks y
-    unfolding marked remarked
-    set-there y h =
-        ap (λ (m : List ℕ). eqb (getD m y 0) 1) set-is ∙ ap (λ (v : ℕ). eqb v 1) (getD-set-other marks x y (cond b 1 0) 0 (omega arith))
+      set-here : marked marks′ x ≡ b
+      set-here =
+          ap (λ (m : List ℕ). marked m x) (set-is .is) ∙ mark-here marks (so .words) x b (omega (arith, few)) ∙
+          ap (λ (c : Bool). c || b) (so .none x (le-refl x) (omega (arith, few)))
 
-    pub marks-next : {one : ℕ} → one ≡ cond b 1 0 → MarkedSoFar T r n (x + 1) marks′ (count + one)
-    unfolding remarked
-    marks-next e =
+      set-there : (y : ℕ) → (y ≡ x → ⊥) → marked marks′ y ≡ marked marks y
+      set-there y other = ap (λ (m : List ℕ). marked m y) (set-is .is) ∙ mark-there marks (so .words) x b (omega (arith, few)) y other
+
+      pub marks-next : MarkedSoFar T r n (x + 1) marks′
+      marks-next =
+          record {
+            some = omega arith;
+            words = set-is .words;
+            marks-are = λ y h.
+                dite (decLt y x)
+                (λ (k : y < x). set-there y (λ e. omega arith) ∙ so .marks-are y k)
+                (λ (k : y < x → ⊥). let same : y ≡ x = omega arith in rw same (set-here ∙ told));
+            none = λ y h k. set-there y (λ e. omega arith) ∙ so .none y (omega arith) k;
+          }
+
+    pub marks-words : Words marks
+    marks-words = so .words
+
+    -- the ones of the words are the touched rows
+    pub marks-done : n ≤ x → {count : ℕ} → count ≡ onesOf marks 16 → Marked T r n marks count
+    marks-done h e =
+        let same : x ≡ n = omega (arith, so .some) in
+        let marks-are : (y : ℕ) → y < n → marked marks y ≡ touchedBy (look T) r y = rw same at (so .marks-are) in
         record {
-          some = omega arith;
-          long = ap length set-is ∙ length-set marks x (cond b 1 0) ∙ so .long;
-          marks-are = λ y h.
-              dite (decLt y x)
-              (λ (k : y < x). set-there y k ∙ so .marks-are y k)
-              (λ (k : y < x → ⊥). let same : y ≡ x = omega arith in rw same (set-here ∙ told));
-          counted = ap (λ (k : ℕ). count + k) e ∙ ap₂ (λ (k : ℕ) (c : Bool). k + cond c 1 0) (so .counted) told ∙ sym (count-next (touchedBy (look T) r) x);
+          marks-are = marks-are;
+          ones-are = e;
+          counted = e ∙ ones-below marks (so .words) n few (λ y k l. so .none y (omega arith) l) ∙ count-same (marked marks) (touchedBy (look T) r) n marks-are;
         }
-
-pub marks-done : {T : List ℕ} {r n x : ℕ} {marks : List ℕ} {count : ℕ} → MarkedSoFar T r n x marks count → n ≤ x → Marked T r n marks count
-marks-done {T} {r} {n} {x} {marks} {count} so h =
-    let e : x ≡ n = omega (arith, so .some) in
-    record { marks-are = rw e at (so .marks-are); counted = rw e at (so .counted) }

@@ -1,7 +1,7 @@
-use Rattle.simplify.proofs.Marking.{touches-itself, decoded-named, touches-named}
+use Rattle.marks.proofs.Marking.{touches-itself, decoded-named, touches-named}
 use borrow.Author.Needs.{needs}
-use Rattle.simplify.proofs.marks.touches.Statement.{statement}
-use Rattle.simplify.proofs.marks.touches.Tie as tie
+use Rattle.marks.proofs.touched.touches.Statement.{statement}
+use Rattle.marks.proofs.touched.touches.Tie as tie
 
 returns : tie.Need-returns
 returns c = search touches-itself

@@ -1,7 +1,7 @@
-use Rattle.simplify.proofs.Marking.{asks-a, asks-b, asks-c, names-a, names-b, names-c}
+use Rattle.marks.proofs.Marking.{asks-a, asks-b, asks-c, names-a, names-b, names-c}
 use borrow.Author.Needs.{needs}
-use Rattle.simplify.proofs.marks.names_marked.Statement.{statement}
-use Rattle.simplify.proofs.marks.names_marked.Tie as tie
+use Rattle.marks.proofs.touched.names_marked.Statement.{statement}
+use Rattle.marks.proofs.touched.names_marked.Tie as tie
 
 of-requires : tie.Need-of-requires
 of-requires c κs = search needs

@@ -1,0 +1,4 @@
+-- Laws of marks.
+pub mod InWord
+pub mod Marks
+pub mod Marking

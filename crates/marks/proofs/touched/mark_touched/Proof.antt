@@ -1,0 +1,50 @@
+use borrow.Author.Needs.{needs}
+use Prim.Native.Nat.{_-_}
+use Rattle.marks.proofs.Marking.{MarkedSoFar, marks-begun, mark-reached, mark-room, marks-next, marks-words, marks-done}
+use Rattle.marks.proofs.touched.mark_touched.Statement.{statement}
+use Rattle.marks.proofs.touched.mark_touched.Tie as tie
+
+abbrev Inv-loop : tie.InvT-loop
+Inv-loop t n r marks₀ x₀ marks x = MarkedSoFar t r n x marks
+
+abbrev μ-loop : tie.MeasureT-loop
+μ-loop t n r marks₀ x₀ marks x = n - x
+
+loop-holds : tie.Need-loop-holds Inv-loop μ-loop
+loop-holds c = search marks-begun
+
+touches-requires : tie.Need-touches-requires Inv-loop μ-loop
+touches-requires c κs = search mark-reached
+
+mark-if-requires : tie.Need-mark-if-requires Inv-loop μ-loop
+mark-if-requires c κs = search mark-room
+
+add-x : tie.Need-add-x Inv-loop μ-loop
+add-x c = search needs
+
+loop-less : tie.Need-loop-less Inv-loop μ-loop
+loop-less c = search needs
+
+loop-again : tie.Need-loop-again Inv-loop μ-loop
+loop-again c = search marks-next
+
+count-requires : tie.Need-count-requires Inv-loop μ-loop
+count-requires c κs = search marks-words
+
+returns : tie.Need-returns Inv-loop μ-loop
+returns c = search marks-done
+
+pub mark-touched-spec : {M : Type 1} → statement M
+mark-touched-spec =
+    tie.close
+    (tie.spec
+    Inv-loop
+    μ-loop
+    loop-holds
+    touches-requires
+    mark-if-requires
+    add-x
+    loop-less
+    loop-again
+    count-requires
+    returns)
