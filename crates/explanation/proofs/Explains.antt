@@ -13,18 +13,18 @@ use Rattle.row.specs.declared.Row.{Row}
 use Rattle.row.specs.Names.{HEADER, place}
 use Rattle.row.specs.Bytes.{rowAt, Read, Small}
 use Rattle.row.proofs.Places.{header-below, room-in}
-use Rattle.rules.specs.Ready.{NamesBelow}
+use Rattle.walks.specs.Ready.{NamesBelow}
 use Rattle.table.specs.Refusals.{MOST, LARGEST, width, rows}
 use Rattle.table.specs.Accepted.{Accepted}
 use Rattle.table.proofs.Accepts.{accepted-gives}
-use Rattle.term.specs.Term.{Term, const, var, shift, sum, diff, neg, read, fresh, write, rowOf}
+use Rattle.term.specs.Term.{Term, const, var, shift, sum, diff, neg, read, fresh, write, isArray, rowOf}
 use Rattle.term.specs.Relation.{rangeOf}
-use Rattle.term.specs.WellFormed.{WellFormed}
+use Rattle.term.specs.WellFormed.{Names, Below, WellFormed}
 use Rattle.term.specs.Bytes.{look}
 use Rattle.term.proofs.Accepted.{accepted-formed, accepted-unnamed}
 use Rattle.term.proofs.Looked.{small-term}
 use Rattle.term.proofs.Placed.{put-rows-row}
-use Rattle.term.proofs.WellFormed.{formed-below, result-formed, result-unnamed}
+use Rattle.term.proofs.WellFormed.{formed-below, result-sort, result-formed, result-unnamed}
 use Rattle.text.specs.Text.{Put}
 use Rattle.simplify.specs.Answer.{LIMIT, modulus}
 use Rattle.simplify.specs.Copy.{Rooms}
@@ -57,6 +57,10 @@ module _ (t buffer : List ℕ) (x : ℕ) (can : Explainable t buffer x) where
   formed : WellFormed (2 ^ width t) (freshRows t)
   unfolding freshRows modulus
   formed = result-formed (2 ^ width t) LIMIT (pow-pos (width t)) (look t) (accepted-formed t ok)
+
+  fresh-sort : (y : ℕ) → isArray (freshRows t y) ≡ isArray (look t y)
+  unfolding freshRows modulus
+  fresh-sort = result-sort (2 ^ width t) LIMIT (pow-pos (width t)) (look t) (accepted-formed t ok)
 
   below : (y : ℕ) → NamesBelow y (freshRows t y)
   below = formed-below (2 ^ width t) (freshRows t) formed
@@ -96,7 +100,7 @@ module _ (t buffer : List ℕ) (x : ℕ) (can : Explainable t buffer x) where
     }
 
     -- the list over the bytes is that of the promise
-    list-by : (u : Term) → NamesBelow x u
+    list-by : (u : Term) → Names (Below (look t) x) u
         → listFor LIMIT (look left) (kept store) x (rowAt left x) u ≡ listFor LIMIT (freshRows t) (rangeOf (modulus t) (freshRows t)) x (rowOf (freshRows t x)) u
     unfolding listFor list
     list-by (const k) n = refl
@@ -106,17 +110,18 @@ module _ (t buffer : List ℕ) (x : ℕ) (can : Explainable t buffer x) where
     list-by (diff a b k) n = refl
     list-by (neg a k) n = refl
     list-by (read m i) n =
-        let array : m < rows t = omega (arith, n .0, can .row) in
-        let index : i < rows t = omega (arith, n .1, can .row) in
+        let array : m < rows t = omega (arith, n .0 .below, can .row) in
+        let index : i < rows t = omega (arith, n .1 .below, can .row) in
         ap₂ (λ (ws : List ℕ) (y : Row). readLine x m i ++ ws ++ resultLine x y)
-        (lines-local (rows t) (look left) (freshRows t) (kept store) (rangeOf (modulus t) (freshRows t)) names-left (run .rows-are) (run .ranges-are) i index LIMIT m array)
+        (sym (lines-local (rows t) (freshRows t) (look left) (rangeOf (modulus t) (freshRows t)) (kept store) (λ y l. formed .names y)
+        (λ y l. sym (run .rows-are y l)) (λ y l word. sym (run .ranges-are y l (sym (fresh-sort y) ∙ word))) i index (fresh-sort i ∙ n .1 .sort) LIMIT m array))
         row-left
     list-by fresh n = refl
     list-by (write a b c) n = refl
 
     list-is : listFor LIMIT (look left) (kept store) x (rowAt left x) (look t x) ≡ listOf t x
     unfolding listOf
-    list-is = list-by (look t x) (formed-below (2 ^ width t) (look t) (accepted-formed t ok) x)
+    list-is = list-by (look t x) (accepted-formed t ok .names x)
 
     -- measured, with the space lent and a byte to spare
     module _ {spare spare′ : List ℕ} {size : ℕ}

@@ -10,10 +10,10 @@ use Rattle.range.specs.Store.{kept}
 use Rattle.row.specs.declared.Row.{Row}
 use Rattle.row.specs.Names.{LENGTH, place}
 use Rattle.row.specs.Bytes.{rowAt, Decoded}
-use Rattle.rules.specs.declared.relation.Index.{Index}
-use Rattle.rules.specs.Ready.{NamesBelow, Reached, Standing, Sought}
-use Rattle.rules.proofs.Reach.{row-room, row-reached}
-use Rattle.rules.proofs.Terms.{term-case}
+use Rattle.walks.specs.declared.relation.Index.{Index}
+use Rattle.walks.specs.Ready.{NamesBelow, Reached, Standing, Sought}
+use Rattle.walks.proofs.Reach.{row-room, row-reached}
+use Rattle.walks.proofs.Terms.{term-case}
 use Rattle.simplify.specs.Answer.{LIMIT}
 use Rattle.term.specs.Term.{Term, read, termOf, isRead}
 use Rattle.term.specs.Bytes.{look}

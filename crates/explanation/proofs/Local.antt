@@ -1,30 +1,32 @@
--- A list looks only at rows that stand: rows and ranges that agree on those give the same list.
+-- A list looks only at rows that stand, and of ranges only at those of words: rows and ranges that agree there give the same list.
 use Prim.Native.Nat.{ℕ, zero, suc, _<_}
 use native.Mathlib.Omega.{arith}
 use mathlib.Core.Path.{_≡_, refl, sym, ap, _∙_}
+use mathlib.Core.Bool.{false}
 use mathlib.Core.List.{List, _++_}
 use Rattle.range.specs.declared.Range.{Range}
-use Rattle.rules.specs.Ready.{NamesBelow}
-use Rattle.rules.proofs.Stores.{NoStore}
+use Rattle.walks.proofs.Stores.{NoStore}
 use Rattle.term.specs.declared.Reason.{Reason}
 use Rattle.term.specs.declared.Reason.the-variants.{SamePlace, Offsets, Separate, Undecided}
-use Rattle.term.specs.Term.{Term, const, var, shift, sum, diff, neg, read, fresh, write}
+use Rattle.term.specs.Term.{Term, const, var, shift, sum, diff, neg, read, fresh, write, isArray}
+use Rattle.term.specs.WellFormed.{Names, Below}
 use Rattle.term.specs.Walk.{walk}
 use Rattle.term.specs.Reason.{reason, knownBy}
 use Rattle.term.proofs.Reasons.{reason-agree}
 use Rattle.listing.specs.List.{storeLine, walkLines}
 use Rattle.explanation.proofs.Steps.{none-left, no-store-lines, lines-found, lines-stopped, lines-passed}
 
--- f names rows below each row, and f′ and g′ agree with f and g below n
+-- f names rows below each row, as what they are, and f′ and g′ agree with f and g below n
 module _
     (n : ℕ)
     (f f′ : ℕ → Term)
     (g g′ : ℕ → Range)
-    (names : (x : ℕ) → x < n → NamesBelow x (f x))
+    (names : (x : ℕ) → x < n → Names (Below f x) (f x))
     (rows : (x : ℕ) → x < n → f x ≡ f′ x)
-    (ranges : (x : ℕ) → x < n → g x ≡ g′ x)
+    (ranges : (x : ℕ) → x < n → isArray (f x) ≡ false → g x ≡ g′ x)
     (i : ℕ)
     (index : i < n)
+    (word : isArray (f i) ≡ false)
   where
     abbrev Alike : ℕ → ℕ → Type 0
     Alike left m = walkLines f g i (walk f g i left m) ≡ walkLines f′ g′ i (walk f′ g′ i left m)
@@ -38,13 +40,13 @@ module _
       is′ : f′ m ≡ write a b c
       is′ = sym (rows m l) ∙ is
 
-      named : NamesBelow m (write a b c)
+      named : Names (Below f m) (write a b c)
       named = rw is at (names m l)
 
       told : reason f g b i ≡ reason f′ g′ b i
       told =
-          let low : b < n = omega (arith, named .1) in
-          reason-agree f f′ g g′ b i (rows b low) (rows i index) (ranges b low) (ranges i index)
+          let low : b < n = omega (arith, named .1 .below) in
+          reason-agree f f′ g g′ b i (rows b low) (rows i index) (ranges b low (named .1 .sort)) (ranges i index word)
 
       alike-by : (why : Reason) → why ≡ reason f g b i → Alike (suc left) m
       unfolding knownBy
@@ -71,8 +73,8 @@ module _
     alike-at left m l onward (read a b) e = alike-none left m l (rw e tt)
     alike-at left m l onward fresh e = alike-none left m l (rw e tt)
     alike-at left m l onward (write a b c) e =
-        let below : NamesBelow m (write a b c) = rw e at (names m l) in
-        alike-by left m a b c l e (onward a (omega (arith, below .0))) (reason f g b i) refl
+        let named : Names (Below f m) (write a b c) = rw e at (names m l) in
+        alike-by left m a b c l e (onward a (omega (arith, named .0 .below))) (reason f g b i) refl
 
     pub lines-local : (left m : ℕ) → m < n → walkLines f g i (walk f g i left m) ≡ walkLines f′ g′ i (walk f′ g′ i left m)
     lines-local zero m l = none-left f g i m ∙ sym (none-left f′ g′ i m)

@@ -9,10 +9,10 @@ use Rattle.range.specs.Store.{kept}
 use Rattle.row.specs.declared.Row.{Row}
 use Rattle.row.specs.Names.{WRITE, LENGTH, place}
 use Rattle.row.specs.Bytes.{Decoded}
-use Rattle.rules.specs.declared.relation.Index.{Index}
-use Rattle.rules.specs.Ready.{NamesBelow, Walking, Comparing}
-use Rattle.rules.proofs.Reach.{row-room}
-use Rattle.rules.proofs.Stores.{NoStore, no-store, store-at, store-compared}
+use Rattle.walks.specs.declared.relation.Index.{Index}
+use Rattle.walks.specs.Ready.{NamesBelow, Walking, Comparing}
+use Rattle.walks.proofs.Reach.{row-room}
+use Rattle.walks.proofs.Stores.{NoStore, no-store, store-at, store-compared}
 use Rattle.term.specs.declared.Met.{Met}
 use Rattle.term.specs.declared.Reason.{Reason}
 use Rattle.term.specs.declared.Relation.{Relation}

@@ -9,8 +9,8 @@ use Rattle.basis.specs.Reason.{first}
 use Rattle.table.specs.Refusals.{rows, headReasons, checkTable, accepted}
 use Rattle.term.specs.Term.{isRead}
 use Rattle.term.specs.Bytes.{look}
-use Rattle.rules.specs.declared.relation.Index.{Index}
-use Rattle.rules.specs.Ready.{NamesBelow, Standing, Walking}
+use Rattle.walks.specs.declared.relation.Index.{Index}
+use Rattle.walks.specs.Ready.{NamesBelow, Standing, Walking}
 use Rattle.simplify.specs.Answer.{LIMIT}
 
 -- of the lines of a walk that begins at array row m, written from `at` on

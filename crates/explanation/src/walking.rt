@@ -14,10 +14,10 @@ use listing::put_result;
 use listing::put_stands;
 use listing::put_store;
 use row::Row;
-use rules::Index;
 use simplify::LIMIT;
 use term::Met;
 use term::Relation;
+use walks::Index;
 
 // Writes a line for each store that the walk for index row i compares, from array row m on, and where the walk ends.
 fn put_walk(
@@ -43,7 +43,7 @@ fn put_walk(
             return put_stands(out, next, n);
         }
         let b = x.b;
-        let why = rules::reason(result, store, b, i, j);
+        let why = walks::reason(result, store, b, i, j);
         next = put_store(
             out,
             next,
@@ -54,7 +54,7 @@ fn put_walk(
                 why: why,
             },
         );
-        match rules::known_by(why) {
+        match walks::known_by(why) {
             Relation::Same => return put_found(out, next, x.c),
             Relation::Apart => n = x.a,
             Relation::Unknown => return put_stands(out, next, n),
@@ -73,7 +73,7 @@ pub fn put_list(out: &mut [u8], table: &[u8], result: &[u8], store: &[u64; 2048]
     let m = x.a;
     let i = x.b;
     let next = put_read(out, 0, r, m, i);
-    let j = rules::index_at(result, store, i);
+    let j = walks::index_at(result, store, i);
     let end = put_walk(out, next, result, store, LIMIT, r, i, j, m);
     put_result(out, end, r, Row::decode(result, r))
 }

@@ -5,21 +5,26 @@ use mathlib.Core.List.{List}
 use Rattle.range.specs.declared.Range.{Range}
 use Rattle.range.specs.Store.{kept}
 use Rattle.row.specs.declared.Row.{Row}
-use Rattle.row.specs.Bytes.{row}
+use Rattle.row.specs.Bytes.{row, Decoded}
 use Rattle.row.specs.Names.{READ, WRITE}
 use Rattle.term.specs.Term.{Term, const, var, shift, sum, diff, neg, read, fresh, write, rowOf}
 use Rattle.term.specs.Base.{baseOf, offsetOf, shapeOf, leftOf, plainOf, plain}
 use Rattle.term.specs.Bytes.{look}
+use Rattle.term.specs.declared.Relation.{Relation}
+use Rattle.term.specs.declared.Relation.the-variants.{Same, Apart, Unknown}
+use Rattle.term.specs.Relation.{related}
 use Rattle.term.specs.Walk.{Walk, found, passed, undecided, ended, walk}
-use Rattle.term.specs.Rule.{shiftRule, readBy, readRule, skipAt, writeRule}
-use Rattle.rules.specs.declared.value.Value.{Value}
-use Rattle.rules.specs.declared.relation.Index.{Index}
-use Rattle.rules.specs.declared.walk.Landing.{Landing}
-use Rattle.rules.specs.declared.walk.Landing.the-variants.{Found, Stopped}
-use Rattle.rules.specs.Value.{valueFrom, valueOf, valueAt, plainFrom}
-use Rattle.rules.specs.Walked.{landing}
-use Rattle.rules.specs.Ready.{Sought, Unary, Reading}
-use Rattle.rules.proofs.Walks.{lands-below}
+use Rattle.term.specs.Rule.{shiftRule, readBy, readRule, skipBy, skipAt, writeRule}
+use Rattle.walks.specs.declared.value.Value.{Value}
+use Rattle.walks.specs.declared.relation.Index.{Index}
+use Rattle.walks.specs.declared.walking.Landing.{Landing}
+use Rattle.walks.specs.declared.walking.Landing.the-variants.{Found, Stopped}
+use Rattle.walks.specs.Value.{valueFrom, valueOf, valueAt, plainFrom}
+use Rattle.walks.specs.Walked.{landing}
+use Rattle.walks.specs.Ready.{Sought}
+use Rattle.walks.proofs.Stores.{NoStore, no-store, store-at}
+use Rattle.walks.proofs.Walks.{lands-below}
+use Rattle.rules.specs.Ready.{Unary, Reading}
 
 -- ---- plain names
 
@@ -76,6 +81,39 @@ module _ (R S : List ℕ) (w limit r m i : ℕ) (l : Landing) (given : Reading R
       }
 
 -- ---- WRITE
+
+skip-none : (f : ℕ → Term) (g : ℕ → Range) (i m : ℕ) (t : Term) → NoStore t → m ≡ skipAt f g i m t
+unfolding skipAt
+skip-none f g i m (const k) h = refl
+skip-none f g i m (var name k u) h = refl
+skip-none f g i m (shift a k) h = refl
+skip-none f g i m (sum a b k) h = refl
+skip-none f g i m (diff a b k) h = refl
+skip-none f g i m (neg a k) h = refl
+skip-none f g i m (read a b) h = refl
+skip-none f g i m fresh h = refl
+skip-none f g i m (write a b c) h = absurd h
+
+module _ (R : List ℕ) (m : ℕ) (x : Row) (row : Decoded R m x) where
+  pub skip-ends : (g : ℕ → Range) (i : ℕ) → (x .kind ≡ WRITE → ⊥) → m ≡ skipAt (look R) g i m (look R m)
+  skip-ends g i h = skip-none (look R) g i m (look R m) (no-store R m x row h)
+
+  module _ (g : ℕ → Range) (i : ℕ) (k : Relation) (kind : x .kind ≡ WRITE) (known : k ≡ related (look R) g (x .b) i) where
+    skip-by : (s : Relation) → k ≡ s → skipAt (look R) g i m (look R m) ≡ skipBy m (x .a) s
+    unfolding skipAt
+    skip-by s e = rw (store-at R m x row kind, ← known, e)
+
+    pub skip-same : k ≡ Same → x .a ≡ skipAt (look R) g i m (look R m)
+    unfolding skipBy
+    skip-same e = sym (skip-by Same e)
+
+    pub skip-apart : k ≡ Apart → m ≡ skipAt (look R) g i m (look R m)
+    unfolding skipBy
+    skip-apart e = sym (skip-by Apart e)
+
+    pub skip-unknown : k ≡ Unknown → m ≡ skipAt (look R) g i m (look R m)
+    unfolding skipBy
+    skip-unknown e = sym (skip-by Unknown e)
 
 module _ (f : ℕ → Term) (g : ℕ → Range) (m i e : ℕ) (j : Index) (v : Value) (a p q : ℕ) (z : Row) where
   pub write-row : Sought f g i j → v ≡ valueAt f e → a ≡ skipAt f g i m (f m) → p ≡ plainFrom i (j .value) → q ≡ plainFrom e v

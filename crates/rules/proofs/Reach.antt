@@ -1,31 +1,16 @@
--- Rows that stand are there: what the functions ask of a row, from what is known of all. Assumes nothing.
-use Prim.Native.Nat.{ℕ, _+_, _≤_, _<_}
+-- The row that a negative base names is there: what NEG of a NEG asks of it. Assumes nothing.
+use Prim.Native.Nat.{ℕ, _<_}
 use native.Mathlib.Omega.{arith}
 use mathlib.Core.Path.{_≡_, sym, ap, _∙_}
-use mathlib.Core.Bool.{Bool}
 use mathlib.Core.List.{List}
-use lib.ListN.{length}
-use Rattle.row.specs.Names.{LENGTH, NEG, place}
+use Rattle.row.specs.Names.{NEG}
 use Rattle.term.specs.Term.{Term, const, var, shift, sum, diff, neg, read, fresh, write}
 use Rattle.term.specs.Base.{baseOf, shapeOf, leftOf}
 use Rattle.term.specs.Bytes.{look}
-use Rattle.term.proofs.Names.{names-widen}
-use Rattle.rules.specs.declared.value.Value.{Value}
-use Rattle.rules.specs.Value.{valueFrom, valueOf, valueAt}
-use Rattle.rules.specs.Ready.{NamesBelow, Standing, Reached, Unary, Negating}
-
-module _ (R : List ℕ) (r x : ℕ) (rows : Standing R r) (below : x < r) where
-  pub row-room : place x + LENGTH ≤ length R
-  unfolding place
-  row-room = omega arith
-
-  pub row-reached : Reached R x
-  row-reached = record { few = omega arith; room = row-room }
-
--- what a row that stands names stands too
-module _ (R : List ℕ) (r : ℕ) (rows : Standing R r) where
-  pub rows-closed : (array : Bool) (x : ℕ) → x < r → NamesBelow r (look R x)
-  rows-closed array x l = names-widen (look R x) (λ (s : Bool) (y : ℕ) (h : y < x). omega arith) (rows .names x l)
+use Rattle.walks.specs.declared.value.Value.{Value}
+use Rattle.walks.specs.Value.{valueFrom, valueOf, valueAt}
+use Rattle.walks.specs.Ready.{NamesBelow}
+use Rattle.rules.specs.Ready.{Unary, Negating}
 
 -- the row that a negative base names is below: NEG alone has such a base
 negative-names : (x : ℕ) (t : Term) → valueOf x t .kind ≡ NEG → NamesBelow x t → valueOf x t .a < x

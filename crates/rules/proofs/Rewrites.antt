@@ -8,8 +8,8 @@ use Rattle.row.specs.Bytes.{row}
 use Rattle.row.specs.Names.{CONST, VAR, SHIFT, SUM, DIFF, NEG, READ, FRESH, WRITE}
 use Rattle.term.specs.Term.{Term, shift, sum, diff, neg, read, write, termOf, rowOf}
 use Rattle.term.specs.Rule.{shiftRule, sumRule, diffRule, negRule, readRule, writeRule, rule}
-use Rattle.rules.specs.Ready.{NamesBelow, Unary, Binary, Reading, Writing, Asked}
-use Rattle.rules.proofs.Terms.{
+use Rattle.walks.specs.Ready.{NamesBelow, SortsIn, Following}
+use Rattle.walks.proofs.Terms.{
   term-const,
   term-var,
   term-shift,
@@ -23,6 +23,7 @@ use Rattle.rules.proofs.Terms.{
   term-past,
   NoKind,
 }
+use Rattle.rules.specs.Ready.{Unary, Binary, Reading, Writing, Asked, Traced}
 
 -- ---- what the rules ask
 
@@ -56,6 +57,13 @@ module _ (R : List ℕ) (w r : ℕ) (x : Row) (given : Asked R w r (termOf x)) w
   asked-write e =
       let names : NamesBelow r (write (x .a) (x .b) (x .c)) = rw (term-write x e) at (given .names) in
       record { rows = given .rows; array = names .0; index = names .1; element = names .2 }
+
+-- the array of a READ is one
+module _ (R S : List ℕ) (r : ℕ) (x : Row) (given : Traced R S r (termOf x)) where
+  pub asked-follow : x .kind ≡ READ → Following R S r (x .a)
+  asked-follow e =
+      let sorts : SortsIn R (read (x .a) (x .b)) = rw (term-read x e) at (given .sorts) in
+      record { links = given .links; sorted = given .sorted; array = sorts .0 }
 
 -- ---- the ways out of the code
 

@@ -31,9 +31,9 @@ use Rattle.term.specs.Base.{
   openBy,
 }
 use Rattle.term.specs.Rule.{shiftRule, sumRule, negBy, negRule, diffRule}
-use Rattle.rules.specs.declared.value.Value.{Value}
-use Rattle.rules.specs.Value.{value, valueFrom, valueOf, valueAt, agree, openedFrom, shiftedRow}
-use Rattle.rules.proofs.Relations.{agree-bases, value-offset}
+use Rattle.walks.specs.declared.value.Value.{Value}
+use Rattle.walks.specs.Value.{value, valueFrom, valueOf, valueAt, agree, openedFrom, shiftedRow}
+use Rattle.walks.proofs.Relations.{agree-bases, value-offset}
 
 -- ---- bases by numbers
 

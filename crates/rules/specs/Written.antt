@@ -4,16 +4,32 @@ use mathlib.Core.Path.{_≡_}
 use mathlib.Core.Bool.{Bool, cond}
 use mathlib.Core.List.{List}
 use lib.ListN.{length}
+use Rattle.range.specs.declared.Range.{Range}
+use Rattle.range.specs.Range.{span, point}
 use Rattle.range.specs.Store.{kept, keep}
 use Rattle.row.specs.declared.Row.{Row}
 use Rattle.row.specs.Names.{LENGTH, place}
 use Rattle.table.specs.Refusals.{MOST}
-use Rattle.term.specs.Term.{Term, termOf, rowOf}
+use Rattle.term.specs.Term.{Term, const, var, shift, sum, diff, neg, read, fresh, write, termOf, rowOf}
 use Rattle.term.specs.Bytes.{look, putIf}
 use Rattle.term.specs.Relation.{rangeBy}
 use Rattle.term.specs.Rule.{rule}
 use Rattle.term.specs.WellFormed.{Fits}
-use Rattle.rules.specs.Ready.{NamesBelow, Standing, Ranged}
+use Rattle.walks.specs.Ready.{NamesBelow, SortsIn, Standing, Sorted, Linked}
+use Rattle.rules.specs.Ready.{Ranged}
+
+-- what the store keeps for a row: the range of a word. An array has none, and the place serves the walks: a WRITE has there the row that it is written on and
+-- its index, a FRESH no row
+unfoldable pub entry : ℕ → (ℕ → Range) → Term → Range
+entry M g (const k) = rangeBy M g (const k)
+entry M g (var name k h) = rangeBy M g (var name k h)
+entry M g (shift a k) = rangeBy M g (shift a k)
+entry M g (sum a b k) = rangeBy M g (sum a b k)
+entry M g (diff a b k) = rangeBy M g (diff a b k)
+entry M g (neg a k) = rangeBy M g (neg a k)
+entry M g (read a b) = rangeBy M g (read a b)
+entry M g fresh = point MOST
+entry M g (write a b c) = span a b
 
 -- what row r is worked out from: the table's row where it is touched, else the result's as it stands
 unfoldable pub source : List ℕ → List ℕ → ℕ → Bool → Term
@@ -25,9 +41,12 @@ pub record CanWrite (T R S : List ℕ) (w r : ℕ) (touched : Bool) : Type 0 whe
   pub table-room : place r + LENGTH ≤ length T
   pub room : place r + LENGTH ≤ length R
   pub rows : Standing R r
-  pub ranges : Ranged (2 ^ w) S r
+  pub sorted : Sorted R r
+  pub ranges : Ranged (2 ^ w) R S r
+  pub links : Linked R S r
   pub fits : Fits (2 ^ w) (source T R r touched)
   pub names : NamesBelow r (source T R r touched)
+  pub sorts : SortsIn R (source T R r touched)
 
 -- the bytes of the result with row r settled
 unfoldable pub settled : List ℕ → List ℕ → List ℕ → ℕ → ℕ → ℕ → Bool → List ℕ
@@ -44,10 +63,13 @@ pub record Settled (T R R′ S : List ℕ) (w limit r : ℕ) (touched : Bool) (x
   pub becomes : termOf x ≡ becomes T R S w limit r touched
   pub fits : Fits (2 ^ w) (termOf x)
   pub names : NamesBelow r (termOf x)
+  pub sorts : SortsIn R (termOf x)
 
 pub record Written (T R R′ S S′ : List ℕ) (w limit r : ℕ) (touched : Bool) : Type 0 where
   pub result : R′ ≡ settled T R S w limit r touched
   pub row : look R′ r ≡ becomes T R S w limit r touched
-  pub store : S′ ≡ keep S r (rangeBy (2 ^ w) (kept S) (look R′ r))
+  pub store : S′ ≡ keep S r (entry (2 ^ w) (kept S) (look R′ r))
   pub rows : Standing R′ (suc r)
-  pub ranges : Ranged (2 ^ w) S′ (suc r)
+  pub sorted : Sorted R′ (suc r)
+  pub ranges : Ranged (2 ^ w) R′ S′ (suc r)
+  pub links : Linked R′ S′ (suc r)

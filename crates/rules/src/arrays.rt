@@ -5,17 +5,18 @@ ghost use Rattle.range.specs.Store.{kept};
 ghost use Rattle.term.specs.Term.{rowOf};
 ghost use Rattle.term.specs.Bytes.{look};
 ghost use Rattle.term.specs.Rule.{readRule, writeRule, skipAt};
-ghost use Rattle.rules.specs.Ready.{Walking, Reading, Writing};
-use super::relation::Index;
-use super::relation::index_at;
-use super::relation::related;
-use super::value::plain_name;
-use super::value::value_at;
-use super::walk::Landing;
-use super::walk::walk;
+ghost use Rattle.walks.specs.Ready.{Walking, Following};
+ghost use Rattle.rules.specs.Ready.{Reading, Writing};
 use super::words::shift_rule;
 use row::Row;
 use term::Relation;
+use walks::Index;
+use walks::Landing;
+use walks::index_at;
+use walks::plain_name;
+use walks::related;
+use walks::value_at;
+use walks::walk;
 
 // READ m i.
 pub fn read_rule(
@@ -27,7 +28,7 @@ pub fn read_rule(
     m: usize,
     i: usize,
 ) -> Row
-    requires { ⌜ Reading (now result) w r m i ⌝ }
+    requires { ⌜ Reading (now result) w r m i ⌝ ∗ ⌜ Following (now result) (now store) r m ⌝ }
     ensures { λ x. ⌜ x ≡ rowOf (readRule (2 ^ w) limit (look (now (result .entry))) (kept (now (store .entry))) m i) ⌝ }
 {
     let j = index_at(result, store, i);

@@ -1,11 +1,11 @@
-// The range of a result row, from those kept of the rows that it names.
+// What the store keeps for a result row: its range, from those kept of the rows that it names.
 ghost use mathlib.Core.Path.{_≡_};
 ghost use Prim.Native.Nat.{_^_};
 ghost use Rattle.range.specs.Range.{point, sum, negation};
 ghost use Rattle.range.specs.Store.{kept};
 ghost use Rattle.term.specs.Term.{termOf};
-ghost use Rattle.term.specs.Relation.{rangeBy};
 ghost use Rattle.rules.specs.Ready.{Moving, RangedOne, RangedTwo, Ranging};
+ghost use Rattle.rules.specs.Written.{entry};
 use range::Range;
 use row::Row;
 
@@ -54,10 +54,10 @@ fn shifted_range(store: &[u64; 2048], w: u32, r: usize, a: usize, k: u64) -> Ran
     moved(w, range::load(store, a), k)
 }
 
-// The range of row r, which is x. That of an array row is never asked for.
-pub fn range_of(store: &[u64; 2048], w: u32, r: usize, x: Row) -> Range
+// What the store keeps for row r, which is x: the range of a word; of an array what a walk asks.
+pub fn entry_of(store: &[u64; 2048], w: u32, r: usize, x: Row) -> Range
     requires { ⌜ Ranging (now store) w r (termOf x) ⌝ }
-    ensures { λ a. ⌜ a ≡ rangeBy (2 ^ w) (kept (now (store .entry))) (termOf x) ⌝ }
+    ensures { λ a. ⌜ a ≡ entry (2 ^ w) (kept (now (store .entry))) (termOf x) ⌝ }
 {
     let kind = x.kind;
     match kind {
@@ -68,8 +68,8 @@ pub fn range_of(store: &[u64; 2048], w: u32, r: usize, x: Row) -> Range
         Row::DIFF => difference_range(store, w, r, x.a, x.b, x.k),
         Row::NEG => negated_range(store, w, r, x.a, x.k),
         Row::READ => Range::of_all(w),
-        Row::FRESH => Range::of_all(w),
-        Row::WRITE => Range::of_all(w),
+        Row::FRESH => Range::of_word(table::MOST as u64),
+        Row::WRITE => Range::of_bounds(x.a as u64, x.b as u64),
         0 | 10..=255 => Range::of_word(0),
     }
 }

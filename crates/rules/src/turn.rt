@@ -1,15 +1,15 @@
-// One turn of a run: a row of the result, and its range.
+// One turn of a run: a row of the result, and what the store keeps for it.
 ghost use mathlib.Core.Path.{_≡_};
 ghost use Prim.Native.Nat.{_^_};
 ghost use Rattle.range.specs.Store.{kept};
 ghost use Rattle.term.specs.Term.{termOf, rowOf};
 ghost use Rattle.term.specs.Bytes.{look};
 ghost use Rattle.term.specs.Rule.{rule};
-ghost use Rattle.rules.specs.Ready.{Asked};
+ghost use Rattle.rules.specs.Ready.{Asked, Traced};
 ghost use Rattle.rules.specs.Written.{CanWrite, Settled, Written};
 use super::arrays::read_rule;
 use super::arrays::write_rule;
-use super::ranges::range_of;
+use super::ranges::entry_of;
 use super::words::diff_rule;
 use super::words::neg_rule;
 use super::words::shift_rule;
@@ -18,7 +18,7 @@ use row::Row;
 
 // The result row of x, which stands as row r in the table.
 pub fn rewrite(result: &[u8], store: &[u64; 2048], w: u32, limit: usize, r: usize, x: Row) -> Row
-    requires { ⌜ Asked (now result) w r (termOf x) ⌝ }
+    requires { ⌜ Asked (now result) w r (termOf x) ⌝ ∗ ⌜ Traced (now result) (now store) r (termOf x) ⌝ }
     ensures { λ y. ⌜ y ≡ rowOf (rule (2 ^ w) limit (look (now (result .entry))) (kept (now (store .entry))) (termOf x)) ⌝ }
 {
     let kind = x.kind;
@@ -57,7 +57,7 @@ fn settle(
     Row::decode(result, r)
 }
 
-// Settles result row r, and keeps its range.
+// Settles result row r, and keeps its range, or of an array what a walk asks.
 pub fn write_row(
     table: &[u8],
     result: &mut [u8],
@@ -71,6 +71,6 @@ pub fn write_row(
     ensures { λ _. ⌜ Written (now (table .entry)) (now (result .entry)) (now (result .exit)) (now (store .entry)) (now (store .exit)) w limit r touched ⌝ }
 {
     let x = settle(table, result, store, w, limit, r, touched);
-    let a = range_of(store, w, r, x);
+    let a = entry_of(store, w, r, x);
     range::save(store, r, a);
 }

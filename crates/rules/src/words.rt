@@ -5,13 +5,13 @@ ghost use Rattle.word.specs.Word.{plus, minus};
 ghost use Rattle.term.specs.Term.{rowOf, sum, diff};
 ghost use Rattle.term.specs.Bytes.{look};
 ghost use Rattle.term.specs.Rule.{shiftRule, sumRule, diffRule, negRule};
-ghost use Rattle.rules.specs.Value.{shiftedRow};
+ghost use Rattle.walks.specs.Value.{shiftedRow};
 ghost use Rattle.rules.specs.Ready.{Unary, Binary, Negating};
-use super::value::Value;
-use super::value::opened;
-use super::value::same_base;
-use super::value::value_at;
 use row::Row;
+use walks::Value;
+use walks::opened;
+use walks::same_base;
+use walks::value_at;
 
 // Writes value v with k added to its offset.
 fn shifted(w: u32, v: Value, k: u64) -> Row

@@ -24,7 +24,7 @@ use Rattle.term.specs.Relation.{related, rangeOf}
 use Rattle.term.specs.Result.{removedRows}
 use Rattle.term.specs.Bytes.{look}
 use Rattle.term.proofs.Reasons.{related-agree}
-use Rattle.rules.specs.Ready.{Reached}
+use Rattle.walks.specs.Ready.{Reached}
 use Rattle.judge.specs.Verdict.{isAccepted}
 use Rattle.judge.specs.Compare.{pairReasons, arrayVerdict}
 use Rattle.judge.specs.Judge.{PairThere}
@@ -109,7 +109,8 @@ module _ (t buffer : List ℕ) (x y : ℕ) where
               let told : k ≡ freshRelation t x y =
               is ∙
               related-agree (look left) (freshRows t) (kept store) (rangeOf (modulus t) (freshRows t)) x y
-              (fresh .rows-are x (ready .first-row)) (fresh .rows-are y (ready .second-row)) (fresh .ranges-are x (ready .first-row)) (fresh .ranges-are y (ready .second-row)) in
+              (fresh .rows-are x (ready .first-row)) (fresh .rows-are y (ready .second-row)) (fresh .ranges-are x (ready .first-row) (ready .first-word))
+              (fresh .ranges-are y (ready .second-row) (ready .second-word)) in
               record {
                 answer-is =
                     λ i. record { answer = numbers few i; relation = (told ∙ sym (pick-true (isAccepted (compareVerdict t buffer x y)) (freshRelation t x y) Unknown yes)) i };

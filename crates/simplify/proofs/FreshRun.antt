@@ -19,7 +19,7 @@ use Rattle.term.specs.Result.{result, removedRows}
 use Rattle.term.specs.Bytes.{look}
 use Rattle.term.proofs.Names.{NamesBelow}
 use Rattle.term.proofs.Placed.{length-put-rows}
-use Rattle.term.proofs.WellFormed.{formed-below}
+use Rattle.term.proofs.WellFormed.{formed-below, formed-sorts}
 use Rattle.term.proofs.Accepted.{accepted-formed}
 use Rattle.marks.specs.Marks.{marked}
 use Rattle.marks.proofs.Marks.{all-marked}
@@ -69,8 +69,11 @@ module _ (t buffer store : List ℕ) (can : CanFresh t buffer store) where
         room = rw length-sets (rw (← ok .head .size) (can .room));
         fits = accepted-formed t ok .fits;
         names = low;
+        sorts = formed-sorts (2 ^ width t) (look t) (accepted-formed t ok);
         kept-fits = λ x l e. absurd (true≢false (sym (marks .all x (omega arith)) ∙ e));
         kept-names = λ x l e. absurd (true≢false (sym (marks .all x (omega arith)) ∙ e));
+        kept-sorts = λ x l e. absurd (true≢false (sym (marks .all x (omega arith)) ∙ e));
+        kept-sort = λ x l e. absurd (true≢false (sym (marks .all x (omega arith)) ∙ e));
       }
 
   module _ {w n : ℕ} {R marks : List ℕ} (all : AllMarked marks) (width-is : Read (width t) 256 w) (rows-is : Read (rows t) 65536 n) (copied : R ≡ begins) where
@@ -89,7 +92,7 @@ module _ (t buffer store : List ℕ) (can : CanFresh t buffer store) where
         record {
           result = d .result ∙ bytes-are t begins store marks (width t) (rows t) (asked all) (λ x. true) (look t) (λ x e. low x) marks-are (λ x l e. absurd (true≢false e));
           rows-are = λ x l. d .rows x l ∙ outcome-is t begins store marks (width t) (rows t) (asked all) (λ y. true) (look t) (λ y e. low y) marks-are (λ y h e. absurd (true≢false e)) x l;
-          ranges-are = λ x l. d .ranges x l ∙ ranges-are t begins store marks (width t) (rows t) (asked all) (λ y. true) (look t) (λ y e. low y) marks-are (λ y h e. absurd (true≢false e)) x l;
+          ranges-are = λ x l word. d .ranges x l word ∙ ranges-are t begins store marks (width t) (rows t) (asked all) (λ y. true) (look t) (λ y e. low y) marks-are (λ y h e. absurd (true≢false e)) x l;
           counted = d .counted ∙ removed-is t begins store marks (width t) (rows t) (asked all) (λ x. true) (look t) (λ x e. low x) marks-are (λ x l e. absurd (true≢false e));
         }
 

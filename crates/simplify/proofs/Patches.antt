@@ -1,8 +1,8 @@
 -- The rows that an edit works out anew: what the loop asks, and that what it leaves is what the public promise says.
 use Prim.Native.Nat.{ℕ, _^_, _≤_, _<_}
-use native.Mathlib.Nat.{le-refl}
-use mathlib.Core.Path.{_≡_, ap₂, sym, subst, _∙_}
-use mathlib.Core.Bool.{false, not, _||_}
+use native.Mathlib.Nat.{le-refl, lt-trans}
+use mathlib.Core.Path.{_≡_, refl, ap, ap₂, sym, subst, _∙_}
+use mathlib.Core.Bool.{Bool, true, false, Bool·beq, not, _||_, true≢false}
 use mathlib.Core.List.{List}
 use lib.ListN.{length, replicate}
 use lib.Dec.{lit<}
@@ -15,13 +15,15 @@ use Rattle.row.proofs.Places.{header-below}
 use Rattle.table.specs.Refusals.{width, rows, checkTable}
 use Rattle.table.specs.Accepted.{Accepted}
 use Rattle.table.proofs.Accepts.{accepted-gives}
+use Rattle.term.specs.Term.{isArray}
 use Rattle.term.specs.Result.{touchedBy, removedRows}
-use Rattle.term.specs.WellFormed.{Fits, Names, WellFormed}
+use Rattle.term.specs.WellFormed.{Fits, Names, Below, WellFormed}
 use Rattle.term.specs.Bytes.{look}
-use Rattle.term.proofs.Names.{NamesBelow}
-use Rattle.term.proofs.WellFormed.{formed-below}
+use Rattle.term.proofs.Names.{NamesBelow, names-widen}
+use Rattle.term.proofs.WellFormed.{formed-below, formed-sorts}
 use Rattle.term.proofs.Looked.{cut-look}
 use Rattle.term.proofs.Accepted.{accepted-formed}
+use Rattle.walks.specs.Ready.{SortsIn}
 use Rattle.marks.specs.Marks.{marked}
 use Rattle.marks.specs.Touched.{CanMark, Marked}
 use Rattle.marks.proofs.Marks.{none-words, none-marked}
@@ -34,6 +36,12 @@ use Rattle.simplify.specs.Edit.{editedRows, editedBytes, touchedRows}
 use Rattle.simplify.specs.Patch.{CanPatch, Patched}
 use Rattle.simplify.proofs.FreshRun.{answer-is}
 use Rattle.simplify.proofs.Outcome.{bytes-are, removed-is}
+
+alike : (a b : Bool) → not (Bool·beq a b) ≡ false → a ≡ b
+alike true true e = refl
+alike true false e = absurd (true≢false e)
+alike false true e = absurd (true≢false e)
+alike false false e = refl
 
 module _ (t kept : List ℕ) (r : ℕ) (can : CanPatch t kept r) where
   ok : Accepted t
@@ -57,6 +65,10 @@ module _ (t kept : List ℕ) (r : ℕ) (can : CanPatch t kept r) where
   unfolding otherHeader width
   same-width = eqb-true (byte part 2) (byte t 2) (not-false _ (any-none _ HEADER (or-right (not (isAccepted (checkTable part))) _ sound) 2 (lit< tt)))
 
+  same-sorts : (x : ℕ) → x < rows t → isArray (look part x) ≡ isArray (look t x)
+  unfolding keptWrong otherSorts
+  same-sorts x l = alike _ _ (any-none _ (rows t) (or-right (not (isAccepted (checkTable part)) || otherHeader t part) _ (can .right)) x l)
+
   part-formed : WellFormed (2 ^ width t) (look part)
   part-formed = rw same-width at (accepted-formed part part-ok)
 
@@ -66,6 +78,9 @@ module _ (t kept : List ℕ) (r : ℕ) (can : CanPatch t kept r) where
 
   part-below : NamesBelow (look part)
   part-below = formed-below (2 ^ width t) (look part) part-formed
+
+  part-sorts : (x : ℕ) → x < rows t → SortsIn t (look part x)
+  part-sorts x l = names-widen (look part x) (λ s y (b : Below (look part) x s y). sym (same-sorts y (lt-trans (b .below) l)) ∙ b .sort) (part-formed .names x)
 
   module _ {n : ℕ} (rows-is : Read (rows t) 65536 n) where
     pub patch-marks : CanMark t n (replicate 16 0)
@@ -85,8 +100,11 @@ module _ (t kept : List ℕ) (r : ℕ) (can : CanPatch t kept r) where
             room = rw (← ok .head .size) (can .room);
             fits = accepted-formed t ok .fits;
             names = formed-below (2 ^ width t) (look t) (accepted-formed t ok);
+            sorts = formed-sorts (2 ^ width t) (look t) (accepted-formed t ok);
             kept-fits = λ x l e. subst (Fits (2 ^ width t)) (sym (part-look x l)) (part-formed .fits x);
             kept-names = λ x l e. subst (Names (λ array y. y < x)) (sym (part-look x l)) (part-below x);
+            kept-sorts = λ x l e. subst (SortsIn t) (sym (part-look x l)) (part-sorts x l);
+            kept-sort = λ x l e. ap isArray (part-look x l) ∙ same-sorts x l;
           }
 
       pub patch-asks : (store : List ℕ) → length store ≡ 2048 → CanRenew t kept store marks w n

@@ -1,6 +1,6 @@
--- The loop over rows: after r rounds the first r rows are the outcome's, and so are their ranges.
+-- The loop over rows: after r rounds the first r rows are the outcome's, and so are the ranges of the words among them.
 use Prim.Native.Nat.{ℕ, suc, _+_, _*_, _^_, _≤_, _<_}
-use native.Mathlib.Nat.{le-refl, lt-trans}
+use native.Mathlib.Nat.{le-refl, lt-trans, lt-suc-self}
 use native.Mathlib.Numerals.{add-one}
 use native.Mathlib.Omega.{arith}
 use native.Mathlib.Decide.{decLt}
@@ -10,6 +10,7 @@ use mathlib.Core.Logic.{dite}
 use mathlib.Core.List.{List}
 use lib.ListN.{length}
 use lib.Dec.{ltb}
+use lib.Pow.{pow-pos}
 use borrow.Author.Tests.{lt-ltb, ltb-true}
 use Rattle.basis.specs.Count.{countWhere}
 use Rattle.basis.proofs.Pick.{pick-case, test-case, pick-alike}
@@ -19,31 +20,37 @@ use Rattle.range.proofs.Kept.{keep-same, keep-other}
 use Rattle.row.specs.Names.{LENGTH, place}
 use Rattle.row.specs.Bytes.{putRow}
 use Rattle.row.proofs.Places.{room-below}
-use Rattle.term.specs.Term.{Term, isRead, termOf, rowOf}
-use Rattle.term.specs.Relation.{rangeBy, rangeOf}
+use Rattle.term.specs.Term.{Term, isRead, isArray, termOf, rowOf}
+use Rattle.term.specs.Relation.{rangeOf}
 use Rattle.term.specs.Rule.{rule}
 use Rattle.term.specs.Result.{simplified, removedRows}
 use Rattle.term.specs.WellFormed.{Fits, Names}
 use Rattle.term.specs.Bytes.{look, putIf, putRows}
-use Rattle.term.proofs.Names.{NamesBelow, names-widen}
+use Rattle.term.proofs.Names.{NamesBelow, names-widen, names-both}
 use Rattle.term.proofs.Local.{rule-local, range-by-local}
 use Rattle.term.proofs.Ranges.{range-eq}
+use Rattle.term.proofs.WellFormed.{simplified-stands}
 use Rattle.term.proofs.Renewed.{KeptBelow, renewed-eq, renewed-below}
 use Rattle.term.proofs.Placed.{length-put-rows, put-if-other, put-rows-above, put-rows-next}
-use Rattle.rules.specs.Ready.{Standing, Ranged}
-use Rattle.rules.specs.Written.{source, settled, becomes, CanWrite, Written}
+use Rattle.walks.specs.Ready.{SortsIn, Standing, Sorted, Linked}
+use Rattle.walks.proofs.Reach.{sorts-closed}
+use Rattle.rules.specs.Ready.{Ranged}
+use Rattle.rules.specs.Written.{entry, source, settled, becomes, CanWrite, Written}
+use Rattle.rules.proofs.RowRanges.{entry-range}
 use Rattle.marks.specs.Marks.{marked}
 use Rattle.simplify.specs.Answer.{LIMIT}
 use Rattle.simplify.specs.Renew.{standing, outcome, CanRenew, Renewed}
 
--- R and S are the result and the ranges after r rounds, which began with R₀
+-- R and S are the result and the store after r rounds, which began with R₀
 pub record Renewing (T R₀ marks : List ℕ) (w n r : ℕ) (R S : List ℕ) (removed : ℕ) : Type 0 where
   pub some : r ≤ n
   pub result : R ≡ putRows (marked marks) (outcome T R₀ (marked marks) w n) r R₀
   pub rows : (x : ℕ) → x < r → look R x ≡ outcome T R₀ (marked marks) w n x
-  pub ranges : (x : ℕ) → x < r → kept S x ≡ rangeOf (2 ^ w) (outcome T R₀ (marked marks) w n) x
+  pub ranges : (x : ℕ) → x < r → isArray (look T x) ≡ false → kept S x ≡ rangeOf (2 ^ w) (outcome T R₀ (marked marks) w n) x
   pub stand : Standing R r
-  pub ranged : Ranged (2 ^ w) S r
+  pub sorted : Sorted R r
+  pub ranged : Ranged (2 ^ w) R S r
+  pub links : Linked R S r
   pub counted : removed ≡ removedRows (look T) (outcome T R₀ (marked marks) w n) r
 
 -- rows above those put are looked up as they were
@@ -76,18 +83,37 @@ module _ (T R₀ S₀ marks : List ℕ) (w n : ℕ) (can : CanRenew T R₀ S₀ 
   out-made : (x : ℕ) → marked marks x ≡ true → out x ≡ simplified (2 ^ w) LIMIT out (look T x)
   out-made x e = out-eq x ∙ rw e
 
+  -- a word stays a word, an array an array
+  out-sort : (x : ℕ) → x < n → isArray (out x) ≡ isArray (look T x)
+  out-sort x l =
+      test-case (marked marks x)
+      (λ (e : marked marks x ≡ true). ap isArray (out-made x e) ∙ simplified-stands (2 ^ w) (pow-pos w) LIMIT out (look T x) (can .fits x) .1)
+      (λ (e : marked marks x ≡ false). ap isArray (out-kept x l e) ∙ can .kept-sort x l e)
+
   module _ {r : ℕ} {R S : List ℕ} {removed : ℕ} (at : Renewing T R₀ marks w n r R S removed) (l : r < n) where
     -- the row that stands at r is the one that stood there at the beginning
     stood : look R r ≡ look R₀ r
     stood = ap (λ (t : List ℕ). look t r) (at .result) ∙ look-above (marked marks) out r R₀ r (le-refl r)
 
+    -- the rows that stand are of the table's sorts
+    sort-now : (y : ℕ) → y < r → isArray (look R y) ≡ isArray (look T y)
+    sort-now y h = ap isArray (at .rows y h) ∙ out-sort y (lt-trans h l)
+
+    sorts-now : (t : Term) → Names (λ s y. y < r) t → SortsIn T t → SortsIn R t
+    sorts-now t low sorts =
+        names-widen t (λ s y (h : (y < r) × (isArray (look T y) ≡ s)). sort-now y (h .0) ∙ h .1)
+        (names-both (λ s y. y < r) (λ s y. isArray (look T y) ≡ s) t low sorts)
+
+    table-sorts : SortsIn R (look T r)
+    table-sorts = sorts-now (look T r) (can .names r) (can .sorts r)
+
     -- the rule over the rows that stand is the rule over the outcome
     ruled : rule (2 ^ w) LIMIT (look R) (kept S) (look T r) ≡ simplified (2 ^ w) LIMIT out (look T r)
     unfolding simplified
     ruled =
-        rule-local (λ s y. y < r) (look R) out
-        (λ s y h. names-widen (look R y) (λ s′ z (k : z < y). lt-trans k h) (at .stand .names y h))
-        (λ s y h. at .rows y h) (kept S) (rangeOf (2 ^ w) out) (λ y h. at .ranges y h) (2 ^ w) LIMIT (look T r) (can .names r)
+        rule-local (λ s y. (y < r) × (isArray (look R y) ≡ s)) (look R) out (sorts-closed R r (at .stand) (at .sorted))
+        (λ s y h. at .rows y (h .0)) (kept S) (rangeOf (2 ^ w) out) (λ y h. at .ranges y (h .0) (sym (sort-now y (h .0)) ∙ h .1)) (2 ^ w) LIMIT (look T r)
+        (names-both (λ s y. y < r) (λ s y. isArray (look R y) ≡ s) (look T r) (can .names r) table-sorts)
 
     same-length : length R ≡ length R₀
     same-length = ap length (at .result) ∙ length-put-rows (marked marks) out r R₀
@@ -104,6 +130,12 @@ module _ (T R₀ S₀ marks : List ℕ) (w n : ℕ) (can : CanRenew T R₀ S₀ 
         pick-case (Names (λ array y. y < r)) (marked marks r) (λ (e : marked marks r ≡ true). can .names r)
         (λ (e : marked marks r ≡ false). subst (Names (λ array y. y < r)) (sym stood) (can .kept-names r l e))
 
+    sorts : SortsIn R (source T R r (marked marks r))
+    unfolding source
+    sorts =
+        pick-case (SortsIn R) (marked marks r) (λ (e : marked marks r ≡ true). table-sorts)
+        (λ (e : marked marks r ≡ false). subst (SortsIn R) (sym stood) (sorts-now (look R₀ r) (can .kept-names r l e) (can .kept-sorts r l e)))
+
     pub can-write : CanWrite T R S w r (marked marks r)
     can-write =
         let few : n ≤ 1024 = can .few in
@@ -116,9 +148,12 @@ module _ (T R₀ S₀ marks : List ℕ) (w n : ℕ) (can : CanRenew T R₀ S₀ 
           table-room = omega arith;
           room = rw same-length (omega arith);
           rows = at .stand;
+          sorted = at .sorted;
           ranges = at .ranged;
+          links = at .links;
           fits = fits;
           names = names;
+          sorts = sorts;
         }
 
     module _ (R′ S′ : List ℕ) (turn : Written T R R′ S S′ w LIMIT r (marked marks r)) where
@@ -152,16 +187,26 @@ module _ (T R₀ S₀ marks : List ℕ) (w n : ℕ) (can : CanRenew T R₀ S₀ 
           (λ (k : x < r). ap (λ (t : List ℕ). look t x) put-one ∙ ap termOf (put-if-other R r (rowOf (out r)) (marked marks r) x (omega arith)) ∙ at .rows x k)
           (λ (k : x < r → ⊥). let e : x ≡ r = omega arith in rw e made)
 
-      ranges′ : (x : ℕ) → x < suc r → kept S′ x ≡ rangeOf (2 ^ w) out x
-      ranges′ x h =
+      -- the words that it names have their ranges in the store
+      words : Names (λ s y. s ≡ false → kept S y ≡ rangeOf (2 ^ w) out y) (out r)
+      words =
+          names-widen (out r)
+          (λ s y (k : (y < r) × (isArray (look R′ y) ≡ s)) (e : s ≡ false).
+          at .ranges y (k .0) (sym (out-sort y (lt-trans (k .0) l)) ∙ ap isArray (sym (rows′ y (lt-trans (k .0) (lt-suc-self r)))) ∙ k .1 ∙ e))
+          (names-both (λ s y. y < r) (λ s y. isArray (look R′ y) ≡ s) (out r) (out-below r) (subst (SortsIn R′) made (turn .sorted .sorts r (lt-suc-self r))))
+
+      -- and so has it, where it is a word
+      range-now : isArray (look T r) ≡ false → kept S′ r ≡ rangeOf (2 ^ w) out r
+      range-now word =
+          ap (λ (s : List ℕ). kept s r) (turn .store) ∙ keep-same S r _ store-room ∙ ap (entry (2 ^ w) (kept S)) made ∙
+          entry-range (2 ^ w) (kept S) (out r) (out-sort r l ∙ word) ∙ range-by-local (2 ^ w) (kept S) (rangeOf (2 ^ w) out) (out r) words ∙
+          sym (range-eq (2 ^ w) out out-below r)
+
+      ranges′ : (x : ℕ) → x < suc r → isArray (look T x) ≡ false → kept S′ x ≡ rangeOf (2 ^ w) out x
+      ranges′ x h word =
           dite (decLt x r)
-          (λ (k : x < r). ap (λ (s : List ℕ). kept s x) (turn .store) ∙ keep-other S r _ x (omega arith) ∙ at .ranges x k)
-          (λ (k : x < r → ⊥).
-          let e : x ≡ r = omega arith in
-          rw e
-          (ap (λ (s : List ℕ). kept s r) (turn .store) ∙ keep-same S r _ store-room ∙ ap (rangeBy (2 ^ w) (kept S)) made ∙
-          range-by-local (2 ^ w) (kept S) (rangeOf (2 ^ w) out) (out r) (names-widen (out r) (λ s y (k′ : y < r). at .ranges y k′) (out-below r)) ∙
-          sym (range-eq (2 ^ w) out out-below r)))
+          (λ (k : x < r). ap (λ (s : List ℕ). kept s x) (turn .store) ∙ keep-other S r _ x (omega arith) ∙ at .ranges x k word)
+          (λ (k : x < r → ⊥). let e : x ≡ r = omega arith in rw e (range-now (rw e at word)))
 
       pub turned : (removed′ : ℕ) → removed′ ≡ removed + cond (isRead (look T r) && not (isRead (look R′ r))) 1 0 → Renewing T R₀ marks w n (r + 1) R′ S′ removed′
       unfolding removedRows
@@ -173,7 +218,9 @@ module _ (T R₀ S₀ marks : List ℕ) (w n : ℕ) (can : CanRenew T R₀ S₀ 
             rows = rw up rows′;
             ranges = rw up ranges′;
             stand = rw up (turn .rows);
+            sorted = rw up (turn .sorted);
             ranged = rw up (turn .ranges);
+            links = rw up (turn .links);
             counted = e ∙ ap₂ (λ (k : ℕ) (t : Term). k + cond (isRead (look T r) && not (isRead t)) 1 0) (at .counted) made ∙ sym (count-next _ r);
           }
 
@@ -185,9 +232,11 @@ begun T R S marks w n can =
       some = omega arith;
       result = refl;
       rows = λ x h. absurd (omega arith);
-      ranges = λ x h. absurd (omega arith);
+      ranges = λ x h e. absurd (omega arith);
       stand = record { few = omega arith; room = omega arith; names = λ x h. absurd (omega arith) };
-      ranged = record { whole = can .store-long; proper = λ x h. absurd (omega arith) };
+      sorted = record { sorts = λ x h. absurd (omega arith) };
+      ranged = record { whole = can .store-long; proper = λ x h e. absurd (omega arith) };
+      links = record { stores = λ x a b c h. absurd (omega arith); ends = λ x h. absurd (omega arith) };
       counted = refl;
     }
 

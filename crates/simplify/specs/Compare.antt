@@ -11,7 +11,7 @@ use Rattle.term.specs.declared.Relation.the-variants.{Unknown}
 use Rattle.term.specs.Relation.{related, rangeOf}
 use Rattle.term.specs.Result.{removedRows}
 use Rattle.term.specs.Bytes.{look}
-use Rattle.rules.specs.Ready.{Reached}
+use Rattle.walks.specs.Ready.{Reached}
 use Rattle.judge.specs.Verdict.{isAccepted}
 use Rattle.judge.specs.Compare.{pairReasons, arrayVerdict}
 use Rattle.simplify.specs.declared.Comparison.{Comparison}

@@ -8,12 +8,13 @@ use lib.Dec.{ltb}
 use Rattle.range.specs.Store.{kept}
 use Rattle.row.specs.Names.{place}
 use Rattle.table.specs.Refusals.{MOST}
-use Rattle.term.specs.Term.{Term, const, isRead}
+use Rattle.term.specs.Term.{Term, const, isRead, isArray}
 use Rattle.term.specs.Relation.{rangeOf}
 use Rattle.term.specs.Result.{renewed, removedRows}
 use Rattle.term.specs.WellFormed.{Fits, Names}
 use Rattle.term.specs.Bytes.{look, putRows}
 use Rattle.marks.specs.Marks.{marked}
+use Rattle.walks.specs.Ready.{SortsIn}
 use Rattle.rules.specs.Written.{CanWrite, Written}
 use Rattle.simplify.specs.Answer.{LIMIT}
 
@@ -41,12 +42,15 @@ pub record CanRenew (T R S marks : List ℕ) (w n : ℕ) : Type 0 where
   pub room : place n ≤ length R
   pub fits : (x : ℕ) → Fits (2 ^ w) (look T x)
   pub names : (x : ℕ) → Names (λ array y. y < x) (look T x)
+  pub sorts : (x : ℕ) → SortsIn T (look T x)
   pub kept-fits : (x : ℕ) → x < n → marked marks x ≡ false → Fits (2 ^ w) (look R x)
   pub kept-names : (x : ℕ) → x < n → marked marks x ≡ false → Names (λ array y. y < x) (look R x)
+  pub kept-sorts : (x : ℕ) → x < n → marked marks x ≡ false → SortsIn T (look R x)
+  pub kept-sort : (x : ℕ) → x < n → marked marks x ≡ false → isArray (look R x) ≡ isArray (look T x)
 
--- S′ is the store of ranges as the loop leaves it
+-- S′ is the store as the loop leaves it: it has the ranges of the word rows
 pub record Renewed (T R marks : List ℕ) (w n : ℕ) (R′ S′ : List ℕ) (removed : ℕ) : Type 0 where
   pub result : R′ ≡ putRows (marked marks) (outcome T R (marked marks) w n) n R
   pub rows : (x : ℕ) → x < n → look R′ x ≡ outcome T R (marked marks) w n x
-  pub ranges : (x : ℕ) → x < n → kept S′ x ≡ rangeOf (2 ^ w) (outcome T R (marked marks) w n) x
+  pub ranges : (x : ℕ) → x < n → isArray (look T x) ≡ false → kept S′ x ≡ rangeOf (2 ^ w) (outcome T R (marked marks) w n) x
   pub counted : removed ≡ removedRows (look T) (outcome T R (marked marks) w n) n

@@ -26,7 +26,7 @@ fn relation(result: &[u8], store: &[u64; 2048], x: usize, y: usize) -> Relation
     requires { ⌜ PairReached (now result) x y ⌝ }
     ensures { λ k. ⌜ k ≡ related (look (now (result .entry))) (kept (now (store .entry))) x y ⌝ }
 {
-    rules::related(result, store, x, y, rules::index_at(result, store, y))
+    walks::related(result, store, x, y, walks::index_at(result, store, y))
 }
 
 // Makes a fresh run, and tells what is known of two of its rows.

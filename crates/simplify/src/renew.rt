@@ -39,7 +39,7 @@ fn one_if(passed: bool) -> u64
     0
 }
 
-// Settles result row r and its range, and answers 1 where it is no READ any more.
+// Settles result row r and what the store keeps for it, and answers 1 where it is no READ any more.
 fn turn(
     table: &[u8],
     result: &mut [u8],
@@ -51,11 +51,19 @@ fn turn(
     requires { ⌜ CanTurn (now table) (now result) (now store) (now marks) w r ⌝ }
     ensures { λ one. ⌜ Turned (now (table .entry)) (now (result .entry)) (now (result .exit)) (now (store .entry)) (now (store .exit)) (now (marks .entry)) w r one ⌝ }
 {
-    rules::write_row(table, result, store, w, LIMIT, r, marks::is_marked(marks, r));
+    rules::write_row(
+        table,
+        result,
+        store,
+        w,
+        LIMIT,
+        r,
+        marks::is_marked(marks, r),
+    );
     one_if(is_removed(table, result, r))
 }
 
-// Works out anew the marked ones of the first n rows, and keeps the range of every row. Answers how many rows are READ in the table and not in the result.
+// Works out anew the marked ones of the first n rows, and keeps the range of every word row. Answers how many rows are READ in the table and not in the result.
 pub fn renew(
     table: &[u8],
     result: &mut [u8],

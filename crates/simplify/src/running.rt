@@ -20,7 +20,7 @@ pub fn refused(number: u64, row: u64) -> Answer
     }
 }
 
-// Writes the fresh result of an accepted table, keeps the ranges of its rows, and answers how many reads it removed.
+// Writes the fresh result of an accepted table, keeps the ranges of its word rows, and answers how many reads it removed.
 pub fn fresh(table: &[u8], result: &mut [u8], store: &mut [u64; 2048]) -> u64
     requires { ⌜ CanFresh (now table) (now result) (now store) ⌝ }
     ensures { λ removed. ⌜ Freshly (now (table .entry)) (now (result .entry)) (now (result .exit)) (now (store .exit)) removed ⌝ }

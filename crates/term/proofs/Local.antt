@@ -18,15 +18,15 @@ use Rattle.term.specs.WellFormed.{Names}
 use Rattle.term.proofs.Names.{names-widen}
 use Rattle.term.proofs.Inside.{BaseIn, WalkIn, base-in, walk-in}
 
--- ranges that agree on the rows that a term names give it the same range
-pub range-by-local : (M : ℕ) (g g′ : ℕ → Range) (t : Term) → Names (λ s y. g y ≡ g′ y) t → rangeBy M g t ≡ rangeBy M g′ t
+-- ranges that agree on the words that a term names give it the same range
+pub range-by-local : (M : ℕ) (g g′ : ℕ → Range) (t : Term) → Names (λ s y. s ≡ false → g y ≡ g′ y) t → rangeBy M g t ≡ rangeBy M g′ t
 unfolding rangeBy
 range-by-local M g g′ (const k) n = refl
 range-by-local M g g′ (var name k h) n = refl
-range-by-local M g g′ (shift a k) n = ap (λ (r : Range). range.sum M r (point k)) n
-range-by-local M g g′ (sum a b k) n = ap₂ (λ (r q : Range). range.sum M (range.sum M r q) (point k)) (n .0) (n .1)
-range-by-local M g g′ (diff a b k) n = ap₂ (λ (r q : Range). range.sum M (range.sum M r (negation M q)) (point k)) (n .0) (n .1)
-range-by-local M g g′ (neg a k) n = ap (λ (r : Range). range.sum M (point k) (negation M r)) n
+range-by-local M g g′ (shift a k) n = ap (λ (r : Range). range.sum M r (point k)) (n refl)
+range-by-local M g g′ (sum a b k) n = ap₂ (λ (r q : Range). range.sum M (range.sum M r q) (point k)) (n .0 refl) (n .1 refl)
+range-by-local M g g′ (diff a b k) n = ap₂ (λ (r q : Range). range.sum M (range.sum M r (negation M q)) (point k)) (n .0 refl) (n .1 refl)
+range-by-local M g g′ (neg a k) n = ap (λ (r : Range). range.sum M (point k) (negation M r)) (n refl)
 range-by-local M g g′ (read a b) n = refl
 range-by-local M g g′ fresh n = refl
 range-by-local M g g′ (write a b c) n = refl
@@ -125,7 +125,7 @@ module _
     range-down-local M zero s x u = refl
     range-down-local M (suc deep) s x u =
         range-by-local M (rangeDown M f deep) (rangeDown M f′ deep) (f x)
-        (names-widen (f x) (λ s′ y v. range-down-local M deep s′ y v) (closed s x u)) ∙
+        (names-widen (f x) (λ s′ y v word. range-down-local M deep s′ y v) (closed s x u)) ∙
         ap (rangeBy M (rangeDown M f′ deep)) (agree s x u)
 
     -- the range of a row of U

@@ -16,10 +16,10 @@ module _ (M : ℕ) (f : ℕ → Term) (low : NamesBelow f) where
   range-deep (suc d) (suc e) x l k =
       range-by-local M (rangeDown M f d) (rangeDown M f e) (f x)
       (names-widen (f x)
-      (λ s y (h : y < x). range-deep d e y (lt-of-lt-of-le h (le-of-suc-le-suc l)) (lt-of-lt-of-le h (le-of-suc-le-suc k))) (low x))
+      (λ s y (h : y < x) word. range-deep d e y (lt-of-lt-of-le h (le-of-suc-le-suc l)) (lt-of-lt-of-le h (le-of-suc-le-suc k))) (low x))
 
   pub range-eq : (x : ℕ) → rangeOf M f x ≡ rangeBy M (rangeOf M f) (f x)
   unfolding rangeOf rangeDown
   range-eq x =
       range-by-local M (rangeDown M f x) (rangeOf M f) (f x)
-      (names-widen (f x) (λ s y (h : y < x). range-deep x (suc y) y h (lt-suc-self y)) (low x))
+      (names-widen (f x) (λ s y (h : y < x) word. range-deep x (suc y) y h (lt-suc-self y)) (low x))

@@ -92,7 +92,7 @@ module _ (M limit : ℕ) (touched : ℕ → Bool) (t kept : ℕ → Term) (low :
       sym (renewed-eq x) in (
         same,
         ranges x l ∙ ap (rangeBy M g) same ∙
-            range-by-local M g (rangeOf M out) (out x) (names-widen (out x) (λ s y (k : y < x). earlier y k (lt-trans k l) .1) (renewed-below x)) ∙
+            range-by-local M g (rangeOf M out) (out x) (names-widen (out x) (λ s y (k : y < x) word. earlier y k (lt-trans k l) .1) (renewed-below x)) ∙
             sym (range-eq M out renewed-below x),
       ))
 

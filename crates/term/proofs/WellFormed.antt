@@ -22,6 +22,9 @@ use Rattle.term.proofs.Renewed.{renewed-eq}
 pub formed-below : (M : ℕ) (f : ℕ → Term) → WellFormed M f → NamesBelow f
 formed-below M f formed x = names-widen (f x) (λ s y (b : Below f x s y). b .below) (formed .names x)
 
+pub formed-sorts : (M : ℕ) (f : ℕ → Term) → WellFormed M f → (x : ℕ) → Names (λ s y. isArray (f y) ≡ s) (f x)
+formed-sorts M f formed x = names-widen (f x) (λ s y (b : Below f x s y). b .sort) (formed .names x)
+
 -- no name stands in a VAR row
 abbrev pub Unnamed : Term → Type 0
 Unnamed (const k) = Unit {0}
@@ -110,7 +113,7 @@ module _ (M : ℕ) (pos : 0 < M) where
   rule-stands limit f g fresh n = (tt, refl, λ u. u)
   rule-stands limit f g (write a b c) n = (tt, refl, λ u. u)
 
-  simplified-stands : (limit : ℕ) (f : ℕ → Term) (t : Term) → Fits M t → StandsFor M t (simplified M limit f t)
+  pub simplified-stands : (limit : ℕ) (f : ℕ → Term) (t : Term) → Fits M t → StandsFor M t (simplified M limit f t)
   unfolding simplified
   simplified-stands limit f t n = rule-stands limit f (rangeOf M f) t n
 

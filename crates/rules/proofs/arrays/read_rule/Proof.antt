@@ -1,5 +1,5 @@
 use borrow.Author.Needs.{needs}
-use Rattle.rules.proofs.Reach.{row-reached}
+use Rattle.walks.proofs.Reach.{row-reached}
 use Rattle.rules.proofs.ArrayRules.{found-below, read-found, read-stopped}
 use Rattle.rules.proofs.arrays.read_rule.Statement.{statement}
 use Rattle.rules.proofs.arrays.read_rule.Tie as tie

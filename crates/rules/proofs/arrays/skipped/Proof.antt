@@ -1,6 +1,7 @@
 use borrow.Author.Needs.{needs}
-use Rattle.rules.proofs.Reach.{row-room}
-use Rattle.rules.proofs.Stores.{skip-ends, store-compared, skip-same, skip-apart, skip-unknown}
+use Rattle.walks.proofs.Reach.{row-room}
+use Rattle.walks.proofs.Stores.{store-compared}
+use Rattle.rules.proofs.ArrayRules.{skip-ends, skip-same, skip-apart, skip-unknown}
 use Rattle.rules.proofs.arrays.skipped.Statement.{statement}
 use Rattle.rules.proofs.arrays.skipped.Tie as tie
 

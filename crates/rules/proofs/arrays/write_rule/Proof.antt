@@ -1,5 +1,5 @@
 use borrow.Author.Needs.{needs}
-use Rattle.rules.proofs.Reach.{row-room, row-reached}
+use Rattle.walks.proofs.Reach.{row-room, row-reached}
 use Rattle.rules.proofs.ArrayRules.{write-row}
 use Rattle.rules.proofs.arrays.write_rule.Statement.{statement}
 use Rattle.rules.proofs.arrays.write_rule.Tie as tie

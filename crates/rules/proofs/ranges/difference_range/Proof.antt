@@ -1,5 +1,5 @@
 use borrow.Author.Needs.{needs}
-use Rattle.rules.proofs.RowRanges.{kept-known, sum-known, negation-known}
+use Rattle.rules.proofs.RowRanges.{kept-known, negation-known, difference-moves}
 use Rattle.rules.proofs.ranges.difference_range.Statement.{statement}
 use Rattle.rules.proofs.ranges.difference_range.Tie as tie
 
@@ -16,7 +16,7 @@ sum-requires : tie.Need-sum-requires
 sum-requires c κs = search (needs, kept-known, negation-known)
 
 moved-requires : tie.Need-moved-requires
-moved-requires c κs = search (needs, kept-known, negation-known, sum-known)
+moved-requires c κs = search difference-moves
 
 returns : tie.Need-returns
 returns c = cc

@@ -1,6 +1,6 @@
 use borrow.Author.Needs.{needs}
 use mathlib.Core.Logic.{⊎-elim}
-use Rattle.rules.proofs.Rewrites.{asked-shift, asked-sum, asked-diff, asked-neg, asked-read, asked-write, rewrite-const, rewrite-var, rewrite-shift, rewrite-sum, rewrite-diff, rewrite-neg, rewrite-read, rewrite-fresh, rewrite-write, rewrite-zero, rewrite-past}
+use Rattle.rules.proofs.Rewrites.{asked-shift, asked-sum, asked-diff, asked-neg, asked-read, asked-follow, asked-write, rewrite-const, rewrite-var, rewrite-shift, rewrite-sum, rewrite-diff, rewrite-neg, rewrite-read, rewrite-fresh, rewrite-write, rewrite-zero, rewrite-past}
 use Rattle.rules.proofs.turn.rewrite.Statement.{statement}
 use Rattle.rules.proofs.turn.rewrite.Tie as tie
 
@@ -23,7 +23,7 @@ neg-rule-requires : tie.Need-neg-rule-requires
 neg-rule-requires c κs = search asked-neg
 
 read-rule-requires : tie.Need-read-rule-requires
-read-rule-requires c κs = search asked-read
+read-rule-requires c κs = search (asked-read, asked-follow)
 
 make-requires-3 : tie.Need-make-requires-3
 make-requires-3 c κs = search needs

@@ -1,5 +1,5 @@
 use borrow.Author.Needs.{needs}
-use Rattle.rules.proofs.Turns.{settle-asks, settle-made, settle-kept}
+use Rattle.rules.proofs.Turns.{settle-asks, settle-traced, settle-made, settle-kept}
 use Rattle.rules.proofs.turn.settle.Statement.{statement}
 use Rattle.rules.proofs.turn.settle.Tie as tie
 
@@ -7,7 +7,7 @@ decode-requires : tie.Need-decode-requires
 decode-requires c κs = search needs
 
 rewrite-requires : tie.Need-rewrite-requires
-rewrite-requires c κs = search settle-asks
+rewrite-requires c κs = search (settle-asks, settle-traced)
 
 put-requires : tie.Need-put-requires
 put-requires c κs = search needs

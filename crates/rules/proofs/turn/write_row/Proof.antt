@@ -1,13 +1,13 @@
 use borrow.Author.Needs.{needs}
-use Rattle.rules.proofs.Turns.{turn-written}
+use Rattle.rules.proofs.Turns.{turn-asks, turn-written}
 use Rattle.rules.proofs.turn.write_row.Statement.{statement}
 use Rattle.rules.proofs.turn.write_row.Tie as tie
 
 settle-requires : tie.Need-settle-requires
 settle-requires c κs = search needs
 
-range-of-requires : tie.Need-range-of-requires
-range-of-requires c κs = search needs
+entry-of-requires : tie.Need-entry-of-requires
+entry-of-requires c κs = search turn-asks
 
 save-requires : tie.Need-save-requires
 save-requires c κs = search needs
@@ -20,4 +20,4 @@ returns c = search turn-written
 
 pub write-row-spec : {M : Type 1} → statement M
 write-row-spec =
-    tie.close (tie.spec settle-requires range-of-requires save-requires same-length returns)
+    tie.close (tie.spec settle-requires entry-of-requires save-requires same-length returns)

@@ -1,5 +1,5 @@
 use borrow.Author.Needs.{needs}
-use Rattle.rules.proofs.Reach.{row-room}
+use Rattle.walks.proofs.Reach.{row-room}
 use Rattle.rules.proofs.WordRules.{diff-same, diff-by-constant, diff-from-constant, diff-opened}
 use Rattle.rules.proofs.words.diff_rule.Statement.{statement}
 use Rattle.rules.proofs.words.diff_rule.Tie as tie

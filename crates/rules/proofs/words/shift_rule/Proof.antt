@@ -1,6 +1,6 @@
 use borrow.Author.Needs.{needs}
+use Rattle.walks.proofs.Reach.{row-room}
 use Rattle.rules.proofs.WordRules.{shift-row}
-use Rattle.rules.proofs.Reach.{row-room}
 use Rattle.rules.proofs.words.shift_rule.Statement.{statement}
 use Rattle.rules.proofs.words.shift_rule.Tie as tie
 

@@ -1,5 +1,5 @@
 use borrow.Author.Needs.{needs}
-use Rattle.rules.proofs.Reach.{row-room}
+use Rattle.walks.proofs.Reach.{row-room}
 use Rattle.rules.proofs.WordRules.{sum-constant, sum-by-constant, sum-opened}
 use Rattle.rules.proofs.words.sum_rule.Statement.{statement}
 use Rattle.rules.proofs.words.sum_rule.Tie as tie
