@@ -207,8 +207,10 @@ module _ (T : List ℕ) (n : ℕ) (marks₀ : List ℕ) (can : CanMark T n marks
     marks-done h e =
         let same : x ≡ n = omega (arith, so .some) in
         let marks-are : (y : ℕ) → y < n → marked marks y ≡ touchedBy (look T) r y = rw same at (so .marks-are) in
+        let none-past : (y : ℕ) → n ≤ y → y < 1024 → marked marks y ≡ false = λ y k l. so .none y (omega arith) l in
         record {
           marks-are = marks-are;
+          none-past = none-past;
           ones-are = e;
-          counted = e ∙ ones-below marks (so .words) n few (λ y k l. so .none y (omega arith) l) ∙ count-same (marked marks) (touchedBy (look T) r) n marks-are;
+          counted = e ∙ ones-below marks (so .words) n few none-past ∙ count-same (marked marks) (touchedBy (look T) r) n marks-are;
         }

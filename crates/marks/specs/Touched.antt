@@ -39,8 +39,9 @@ pub record CanMark (T : List ℕ) (n : ℕ) (marks : List ℕ) : Type 0 where
   pub words : Words marks
   pub none : (x : ℕ) → x < MOST → marked marks x ≡ false
 
--- the touched rows among the first n are marked, and there are `count`, the ones of the sixteen words
+-- the touched rows among the first n are marked and no other row is, and there are `count`, the ones of the sixteen words
 pub record Marked (T : List ℕ) (r n : ℕ) (marks : List ℕ) (count : ℕ) : Type 0 where
   pub marks-are : (x : ℕ) → x < n → marked marks x ≡ touchedBy (look T) r x
+  pub none-past : (x : ℕ) → n ≤ x → x < MOST → marked marks x ≡ false
   pub ones-are : count ≡ onesOf marks 16
   pub counted : count ≡ countWhere (touchedBy (look T) r) n

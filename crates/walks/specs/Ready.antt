@@ -40,7 +40,7 @@ SortsIn R t = Names (λ array y. isArray (look R y) ≡ array) t
 pub record Sorted (R : List ℕ) (r : ℕ) : Type 0 where
   pub sorts : (x : ℕ) → x < r → SortsIn R (look R x)
 
--- the store has for each WRITE below r the row that it is written on, and its index; for each FRESH no row, which MOST is
+-- the store has for each WRITE below r the row that it is written on, and its index; for each FRESH the number MOST, which is no row
 pub record Linked (R S : List ℕ) (r : ℕ) : Type 0 where
   pub stores : (x a b c : ℕ) → x < r → look R x ≡ write a b c → kept S x ≡ span a b
   pub ends : (x : ℕ) → x < r → look R x ≡ fresh → kept S x ≡ point MOST
