@@ -2,9 +2,12 @@
  * Stezkoun: checks a table of word and array terms, writes its simplified table, replaces one
  * row of a table together with its kept result, compares two rows, and lists why a read moved.
  *
- * A table is 6 + 26 n bytes: a header (46 54, width 1..64, 0, row count n 0..1024 in two bytes)
- * and n rows of 26 bytes (52 4F, kind, 0, references a b c in two bytes each, values k h in
- * eight bytes each), all numbers little endian. A result is a table with the same header.
+ * A table is 6 + 30 n bytes: a header (46 54, width 1..64, 0, row count n 0..1024 in two bytes)
+ * and n rows of 30 bytes (52 4F, kind, 0, references a b c in two bytes each, values k h in
+ * eight bytes each, the number of the instruction that recorded the row in four bytes), all
+ * numbers little endian. A result is a table with the same header, and each of its rows carries
+ * the instruction number of its row in the table. Any such number will do: it is carried, and
+ * listed by stezkoun_why, and has no other influence.
  *
  * Lending. Every buffer belongs to the caller; nothing is kept, allocated or freed, and nothing
  * outside the given lengths is read or written. Within one call the lent buffers must not
@@ -36,10 +39,10 @@ enum stezkoun_refusal {
     STEZKOUN_HEADER_MARK = 2,        /* header mark or zero byte wrong */
     STEZKOUN_WIDTH = 3,              /* width is 0 or above 64 */
     STEZKOUN_ROW_COUNT = 4,          /* n above 1024 */
-    STEZKOUN_TABLE_LENGTH = 5,       /* table length is not 6 + 26 n */
+    STEZKOUN_TABLE_LENGTH = 5,       /* table length is not 6 + 30 n */
     STEZKOUN_RESULT_TOO_SHORT = 6,   /* result or kept result shorter than the table */
     STEZKOUN_ROW_NUMBER = 7,         /* a row number given by the caller is not below n */
-    STEZKOUN_REPLACEMENT_LENGTH = 8, /* replacement is not 26 bytes long */
+    STEZKOUN_REPLACEMENT_LENGTH = 8, /* replacement is not 30 bytes long */
     STEZKOUN_ROW_MARK = 9,           /* row mark or zero byte wrong */
     STEZKOUN_KIND = 10,              /* kind not 1 to 9 */
     STEZKOUN_UNUSED_FIELD = 11,      /* a field that the kind does not use is not zero */
@@ -74,7 +77,8 @@ struct stezkoun_answer stezkoun_run(const uint8_t *table, size_t table_len,
 
 /*
  * Puts the replacement in the place of one row of the table, and works out anew, in the kept
- * result, that row and the rows that lead back to it through references; all else stays. With
+ * result, that row and the rows that lead back to it through references, each with the
+ * instruction number of its row in the edited table; all else stays, numbers among it. With
  * the table's own kept result the outcome is that of a fresh run of the edited table. Refusals
  * 9 to 15 are judged on the table with the replacement in place. Gives refusals 1 to 16.
  */
@@ -95,10 +99,11 @@ struct stezkoun_comparison stezkoun_compare(const uint8_t *table, size_t table_l
 
 /*
  * Simplifies as stezkoun_run does, and lists the walk of one READ row of the table: each store
- * that was compared, nearest first, with the reason, then where the read ended. The lines are
- * text without a zero byte at the end (docs/WHY.md), at most 256 bytes for each store compared
- * and 256 more; they take the first length bytes of list, and later bytes stay. Gives refusals
- * 1 to 7 and 9 to 15, then 17 and 22. On 22 length says how much to lend; on all others it is 0.
+ * that was compared, nearest first, with its instruction number and the reason, then where the
+ * read ended. The lines are text without a zero byte at the end (docs/WHY.md), at most 256 bytes
+ * for each store compared and 256 more; they take the first length bytes of list, and later bytes
+ * stay. Gives refusals 1 to 7 and 9 to 15, then 17 and 22. On 22 length says how much to lend; on
+ * all others it is 0.
  */
 struct stezkoun_listing stezkoun_why(const uint8_t *table, size_t table_len,
                                      uint8_t *result, size_t result_len,

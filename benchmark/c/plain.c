@@ -7,7 +7,7 @@
 struct plain_answer { uint64_t refusal, row, removed, touched; };
 
 enum { CONST = 1, VAR, SHIFT, SUM, DIFF, NEG, READ, FRESH, WRITE };
-enum { HEADER = 6, ROW = 26, MOST_ROWS = 1024 };
+enum { HEADER = 6, ROW = 30, SOURCE = 26, MOST_ROWS = 1024 };
 
 /* A base is kept as the row that writes it: CONST for nothing, SHIFT for one. */
 struct row { uint8_t kind; uint16_t a, b, c; uint64_t k, h; };
@@ -25,12 +25,21 @@ struct state {
 /* Written out, so that the compiler sees one load or store. */
 static uint16_t get16(const uint8_t *p) { return (uint16_t)(p[0] | p[1] << 8); }
 
+static uint32_t get32(const uint8_t *p) {
+    return (uint32_t)p[0] | (uint32_t)p[1] << 8 | (uint32_t)p[2] << 16 | (uint32_t)p[3] << 24;
+}
+
 static uint64_t get64(const uint8_t *p) {
     return (uint64_t)p[0] | (uint64_t)p[1] << 8 | (uint64_t)p[2] << 16 | (uint64_t)p[3] << 24
         | (uint64_t)p[4] << 32 | (uint64_t)p[5] << 40 | (uint64_t)p[6] << 48 | (uint64_t)p[7] << 56;
 }
 
 static void put16(uint8_t *p, uint16_t v) { p[0] = (uint8_t)v; p[1] = (uint8_t)(v >> 8); }
+
+static void put32(uint8_t *p, uint32_t v) {
+    p[0] = (uint8_t)v; p[1] = (uint8_t)(v >> 8); p[2] = (uint8_t)(v >> 16);
+    p[3] = (uint8_t)(v >> 24);
+}
 
 static void put64(uint8_t *p, uint64_t v) {
     p[0] = (uint8_t)v; p[1] = (uint8_t)(v >> 8); p[2] = (uint8_t)(v >> 16);
@@ -43,10 +52,11 @@ static struct row decode(const uint8_t *p) {
     return r;
 }
 
-static void encode(uint8_t *p, struct row r) {
+static void encode(uint8_t *p, struct row r, uint32_t source) {
     p[0] = 0x52; p[1] = 0x4f; p[2] = r.kind; p[3] = 0;
     put16(p + 4, r.a); put16(p + 6, r.b); put16(p + 8, r.c);
     put64(p + 10, r.k); put64(p + 18, r.h);
+    put32(p + SOURCE, source);
 }
 
 static int is_array(uint8_t kind) { return kind >= FRESH; }
@@ -228,7 +238,8 @@ struct plain_answer plain_run(const uint8_t *table, size_t table_len,
         struct row new_row = simplified(&s, s.rows[i]);
         removed += s.rows[i].kind == READ && new_row.kind != READ;
         settle(&s, (uint16_t)i, new_row);
-        encode(result + HEADER + ROW * i, new_row);
+        unsigned at = HEADER + ROW * i;
+        encode(result + at, new_row, get32(table + at + SOURCE));
     }
     struct plain_answer answer = { 0, 0, removed, n };
     return answer;

@@ -2,7 +2,6 @@
 //! (makecontext and swapcontext); what is no longer that byte was used.
 
 use crate::families::Subject;
-use second::bytes::row_bytes;
 use second::text::LONGEST_LIST;
 use std::ffi::c_void;
 use stezkoun::numbers;
@@ -42,9 +41,8 @@ pub fn print(subjects: &[Subject]) {
         });
         let edit = subject.edits().into_iter().map(|edit| {
             let (mut table, mut kept) = (table.clone(), subject.result.clone());
-            let replacement = row_bytes(edit.replacements[0]);
             depth(&mut stack, &mut || {
-                numbers::edit(&mut table, &mut kept, edit.row as u64, &replacement);
+                numbers::edit(&mut table, &mut kept, edit.row, &edit.replacements[0]);
             })
         });
         let edit = edit.max().unwrap_or(0);

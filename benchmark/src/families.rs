@@ -1,8 +1,9 @@
 //! The tables that are measured.
 
-use second::bytes::table_bytes;
+use second::bytes::{row_bytes, table_bytes, ROW};
 use second::{Row, Width};
 use tables::random::Random;
+use tables::sources::sources;
 use tables::{chain, machine, wellformed};
 
 pub const SIZES: [usize; 4] = [16, 64, 256, 1024];
@@ -42,6 +43,7 @@ impl Family {
 /// A table, its result, and the calls to measure on it.
 pub struct Subject {
     pub rows: Vec<Row>,
+    sources: Vec<u32>,
     pub table: Vec<u8>,
     pub result: Vec<u8>,
 }
@@ -49,8 +51,8 @@ pub struct Subject {
 /// An edit to repeat: two replacements in turn, so that each call changes something.
 pub struct Edit {
     pub name: &'static str,
-    pub row: usize,
-    pub replacements: [Row; 2],
+    pub row: u64,
+    pub replacements: [[u8; ROW]; 2],
 }
 
 impl Subject {
@@ -66,10 +68,17 @@ impl Subject {
     }
 
     fn of(width: Width, rows: Vec<Row>) -> Subject {
-        let table = table_bytes(width, &rows);
+        let sources = sources(&mut Random::new(rows.len() as u64), rows.len());
+        let table = table_bytes(width, &rows, &sources);
         let mut result = vec![0; table.len()];
         assert_eq!(second::run(&table, &mut result).refusal, 0);
-        Subject { rows, table, result }
+        Subject { rows, sources, table, result }
+    }
+
+    /// A row exchanged for another of its instruction, and put back.
+    fn edit(&self, name: &'static str, row: usize, other: Row) -> Edit {
+        let replacements = [other, self.rows[row]].map(|new| row_bytes(new, self.sources[row]));
+        Edit { name, row: row as u64, replacements }
     }
 
     /// The first row moves everything, a SHIFT in the middle what follows it, the last itself.
@@ -77,23 +86,21 @@ impl Subject {
         let mut edits = Vec::new();
         match self.rows[0] {
             Row::Var { low, high } if low < high => {
-                let replacements = [Row::Var { low: low + 1, high }, self.rows[0]];
-                edits.push(Edit { name: "edit first", row: 0, replacements });
+                edits.push(self.edit("edit first", 0, Row::Var { low: low + 1, high }));
             }
             _ => {}
         }
         let shift = |row: &usize| matches!(self.rows[*row], Row::Shift { .. });
         if let Some(row) = (self.rows.len() / 2..self.rows.len()).find(shift) {
             let Row::Shift { a, k } = self.rows[row] else { unreachable!("just found") };
-            let replacements = [Row::Shift { a, k: k ^ 1 }, self.rows[row]];
-            edits.push(Edit { name: "edit middle", row, replacements });
+            edits.push(self.edit("edit middle", row, Row::Shift { a, k: k ^ 1 }));
         }
         let last = self.rows.len() - 1;
         let other = match self.rows[last].sort() {
             second::Sort::Word => Row::Const { k: 1 },
             second::Sort::Array => Row::Fresh,
         };
-        edits.push(Edit { name: "edit last", row: last, replacements: [other, self.rows[last]] });
+        edits.push(self.edit("edit last", last, other));
         edits
     }
 

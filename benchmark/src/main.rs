@@ -6,7 +6,6 @@ mod plain;
 mod timing;
 
 use families::{Edit, Family, Subject, SIZES};
-use second::bytes::row_bytes;
 use second::text::LONGEST_LIST;
 use std::hint::black_box;
 use stezkoun::numbers;
@@ -30,8 +29,7 @@ fn runs(subject: &Subject) -> Vec<Call<'_>> {
 }
 
 fn edits<'a>(subject: &Subject, edit: &Edit) -> Vec<Call<'a>> {
-    let replacements = edit.replacements.map(row_bytes);
-    let row = edit.row as u64;
+    let Edit { row, replacements, .. } = *edit;
     let buffers = || (subject.table.clone(), subject.result.clone(), 0);
     let (mut table, mut kept, mut turn) = buffers();
     let (mut second_table, mut second_kept, mut second_turn) = buffers();
@@ -87,8 +85,7 @@ fn check(subject: &Subject) {
     for edit in subject.edits() {
         let (mut table, mut kept) = (subject.table.clone(), subject.result.clone());
         for replacement in edit.replacements {
-            let answer =
-                numbers::edit(&mut table, &mut kept, edit.row as u64, &row_bytes(replacement));
+            let answer = numbers::edit(&mut table, &mut kept, edit.row, &replacement);
             assert_eq!(answer.refusal, 0, "{}", edit.name);
         }
         assert!(kept == subject.result, "{} and back again", edit.name);

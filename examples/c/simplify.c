@@ -8,7 +8,7 @@
 #include <inttypes.h>
 #include <stdio.h>
 
-enum { HEADER = 6, ROW = 26, ROWS = 9 };
+enum { HEADER = 6, ROW = 30, SOURCE = 26, ROWS = 9 };
 enum { CONST = 1, VAR, SHIFT, SUM, DIFF, NEG, READ, FRESH, WRITE };
 
 static void put(uint8_t *at, int bytes, uint64_t value) {
@@ -22,33 +22,34 @@ static uint64_t get(const uint8_t *at, int bytes) {
 }
 
 static void put_row(uint8_t *at, uint8_t kind, uint16_t a, uint16_t b, uint16_t c,
-                    uint64_t k, uint64_t h) {
+                    uint64_t k, uint64_t h, uint32_t instruction) {
     at[0] = 0x52; at[1] = 0x4f; at[2] = kind; at[3] = 0;
     put(at + 4, 2, a); put(at + 6, 2, b); put(at + 8, 2, c);
     put(at + 10, 8, k); put(at + 18, 8, h);
+    put(at + SOURCE, 4, instruction);
 }
 
 static void put_p1(uint8_t *table) {
     uint8_t *row = table + HEADER;
     table[0] = 0x46; table[1] = 0x54; table[2] = 8; table[3] = 0;
     put(table + 4, 2, ROWS);
-    put_row(row + 0 * ROW, VAR, 0, 0, 0, 200, 250);  /* a stack pointer */
-    put_row(row + 1 * ROW, FRESH, 0, 0, 0, 0, 0);    /* memory */
-    put_row(row + 2 * ROW, SHIFT, 0, 0, 0, 248, 0);  /* the pointer - 8 */
-    put_row(row + 3 * ROW, CONST, 0, 0, 0, 7, 0);
-    put_row(row + 4 * ROW, WRITE, 1, 2, 3, 0, 0);    /* 7 is stored there */
-    put_row(row + 5 * ROW, SHIFT, 0, 0, 0, 224, 0);
-    put_row(row + 6 * ROW, SHIFT, 5, 0, 0, 24, 0);   /* the pointer - 32 + 24 */
-    put_row(row + 7 * ROW, READ, 4, 6, 0, 0, 0);     /* so this reads the 7 */
-    put_row(row + 8 * ROW, READ, 4, 7, 0, 0, 0);     /* and this, at 7, passes the store */
+    put_row(row + 0 * ROW, VAR, 0, 0, 0, 200, 250, 0);  /* a stack pointer */
+    put_row(row + 1 * ROW, FRESH, 0, 0, 0, 0, 0, 0);    /* memory */
+    put_row(row + 2 * ROW, SHIFT, 0, 0, 0, 248, 0, 6);  /* the pointer - 8 */
+    put_row(row + 3 * ROW, CONST, 0, 0, 0, 7, 0, 6);
+    put_row(row + 4 * ROW, WRITE, 1, 2, 3, 0, 0, 6);    /* instruction 6 stores 7 there */
+    put_row(row + 5 * ROW, SHIFT, 0, 0, 0, 224, 0, 9);
+    put_row(row + 6 * ROW, SHIFT, 5, 0, 0, 24, 0, 9);   /* the pointer - 32 + 24 */
+    put_row(row + 7 * ROW, READ, 4, 6, 0, 0, 0, 9);     /* so instruction 9 reads the 7 */
+    put_row(row + 8 * ROW, READ, 4, 7, 0, 0, 0, 12);    /* and 12, at 7, passes the store */
 }
 
 static void print_rows(const uint8_t *table) {
     for (unsigned i = 0; i < ROWS; i++) {
         const uint8_t *row = table + HEADER + ROW * i;
-        printf("%u %u %" PRIu64 " %" PRIu64 " %" PRIu64 " %" PRIu64 " %" PRIu64 "\n", i, row[2],
-               get(row + 4, 2), get(row + 6, 2), get(row + 8, 2), get(row + 10, 8),
-               get(row + 18, 8));
+        printf("%u %u %" PRIu64 " %" PRIu64 " %" PRIu64 " %" PRIu64 " %" PRIu64 " %" PRIu64 "\n",
+               i, row[2], get(row + 4, 2), get(row + 6, 2), get(row + 8, 2), get(row + 10, 8),
+               get(row + 18, 8), get(row + SOURCE, 4));
     }
 }
 
@@ -78,8 +79,9 @@ int main(void) {
     if (print_answer("why", listed.answer)) return 1;
     fwrite(list, 1, listed.length, stdout);
 
-    /* With the pointer anywhere from 0 the last read may no longer pass the store. */
-    put_row(wide, VAR, 0, 0, 0, 0, 250);
+    /* With the pointer anywhere from 0, as instruction 3 has it, the last read may no longer
+       pass the store. */
+    put_row(wide, VAR, 0, 0, 0, 0, 250, 3);
     struct stezkoun_answer edited =
         stezkoun_edit(table, sizeof table, result, sizeof result, 0, wide, sizeof wide);
     if (print_answer("edit", edited)) return 1;

@@ -1,13 +1,14 @@
 -- What a case says of the definitions, and the test of it.
-use Prim.Native.Nat.{ℕ, _^_}
-use mathlib.Core.Bool.{Bool, true, false, _&&_}
+use Prim.Native.Nat.{ℕ, suc, _-_, _^_}
+use mathlib.Core.Bool.{Bool, true, false, cond, _&&_}
 use mathlib.Core.List.{List, [], _∷_, _++_}
 use lib.ListN.{length, replicate}
 use lib.Dec.{eqb}
 use Rattle.range.specs.declared.Range.{Range}
 use Rattle.range.specs.Range.{negation}
 use Rattle.range.specs.Range as range
-use Rattle.row.specs.Bytes.{bytes, bytesOf}
+use Rattle.bytes.specs.Numbers.{bytes}
+use Rattle.row.specs.Bytes.{bytesOf}
 use Rattle.term.specs.Term.{Term, rowOf}
 use Rattle.simplify.specs.declared.Answer.{Answer}
 use Rattle.simplify.specs.Run.{runAnswer, runResult}
@@ -38,13 +39,25 @@ answers : Answer → ℕ → ℕ → ℕ → ℕ → Bool
 answers a refusal row removed touched =
     eqb (a .refusal) refusal && eqb (a .row) row && eqb (a .removed) removed && eqb (a .touched) touched
 
-rowsOf : List Term → List ℕ
-rowsOf [] = []
-rowsOf (t ∷ ts) = bytesOf (rowOf t) ++ rowsOf ts
+-- the sources of a case: another for each row of its table, and one of its own for the replacement of a row
+recorded : ℕ → ℕ
+recorded x = 0xfedcba98 - x
+
+replaced : ℕ
+replaced = 0x01020304
+
+-- the sources after an edit of row r
+patched : ℕ → ℕ → ℕ
+patched r x = cond (eqb x r) replaced (recorded x)
+
+-- rows from number x on
+rowsOf : (ℕ → ℕ) → ℕ → List Term → List ℕ
+rowsOf source x [] = []
+rowsOf source x (t ∷ ts) = bytesOf (rowOf t) (source x) ++ rowsOf source (suc x) ts
 
 -- the bytes of a table
-tableOf : ℕ → List Term → List ℕ
-tableOf w ts = (0x46 ∷ 0x54 ∷ w ∷ 0 ∷ []) ++ bytes 2 (length ts) ++ rowsOf ts
+tableOf : (ℕ → ℕ) → ℕ → List Term → List ℕ
+tableOf source w ts = (0x46 ∷ 0x54 ∷ w ∷ 0 ∷ []) ++ bytes 2 (length ts) ++ rowsOf source 0 ts
 
 -- a buffer as long as a table
 room : List ℕ → List ℕ
@@ -66,12 +79,12 @@ refusesBy t r x number row =
     answers (editAnswer t kept r x) number row 0 0 && sameBytes (editTable t kept r x) t && sameBytes (editKept t kept r x) kept
 
 unfoldable pub holds : Case → Bool
-unfolding sameRange sameBytes answers rowsOf tableOf room runsTo editsTo refusesBy
+unfolding sameRange sameBytes answers recorded replaced patched rowsOf tableOf room runsTo editsTo refusesBy
 holds (plus w a b c) = sameRange (range.sum (2 ^ w) a b) c
 holds (negated w a b) = sameRange (negation (2 ^ w) a) b
-holds (runs w t f removed touched) = runsTo (tableOf w t) (tableOf w f) removed touched
-holds (edits w t r x f removed touched) = editsTo (tableOf w t) r (bytesOf (rowOf x)) (tableOf w f) removed touched
-holds (refuses w t r x number row) = refusesBy (tableOf w t) r (bytesOf (rowOf x)) number row
+holds (runs w t f removed touched) = runsTo (tableOf recorded w t) (tableOf recorded w f) removed touched
+holds (edits w t r x f removed touched) = editsTo (tableOf recorded w t) r (bytesOf (rowOf x) replaced) (tableOf (patched r) w f) removed touched
+holds (refuses w t r x number row) = refusesBy (tableOf recorded w t) r (bytesOf (rowOf x) replaced) number row
 
 unfoldable pub allHold : List Case → Bool
 allHold [] = true

@@ -9,6 +9,7 @@ use lib.ListN.{length, take}
 use lib.Seq.{length-sets}
 use Rattle.basis.proofs.Pick.{pick-true, test-case}
 use Rattle.row.specs.Names.{HEADER, place}
+use Rattle.row.specs.Bytes.{sourceAt}
 use Rattle.row.proofs.Places.{header-below}
 use Rattle.row.proofs.Rows.{take-stays}
 use Rattle.table.specs.Refusals.{rows, refuse, accepted, checkTable}
@@ -61,26 +62,26 @@ module _ (t kept : List ℕ) (r : ℕ) (replacement : List ℕ) (granted : isAcc
   is : EditGranted t kept r replacement
   is = edit-granted t kept r replacement granted
 
-  long : length e ≡ length t
+  pub edited-long : length (edited t r replacement) ≡ length t
   unfolding edited
-  long = length-sets t (place r) replacement
+  edited-long = length-sets t (place r) replacement
 
-  same-head : take HEADER e ≡ take HEADER t
+  pub edited-head : take HEADER (edited t r replacement) ≡ take HEADER t
   unfolding edited
-  same-head = take-stays t r replacement (is .ready .long) HEADER (header-below r)
+  edited-head = take-stays t r replacement (is .ready .long) HEADER (header-below r)
 
-  passes : checkTable e ≡ accepted
+  pub edited-passes : checkTable (edited t r replacement) ≡ accepted
   unfolding accepted refuse
-  passes = table-passes e accepted (head-same e t long same-head ∙ is .ready .roomy .head) (ap (λ v. v .number) (is .rows-pass))
+  edited-passes = table-passes e accepted (head-same e t edited-long edited-head ∙ is .ready .roomy .head) (ap (λ v. v .number) (is .rows-pass))
 
   ok : Accepted e
-  ok = accepted-gives e passes
+  ok = accepted-gives e edited-passes
 
-  table-left : editTable t kept r replacement ≡ e
+  pub table-left : editTable t kept r replacement ≡ edited t r replacement
   unfolding editTable
   table-left = pick-true (isAccepted (editVerdict t kept r replacement)) _ _ granted
 
-  kept-left : editKept t kept r replacement ≡ editedBytes e r kept
+  pub kept-left : editKept t kept r replacement ≡ editedBytes (edited t r replacement) r kept
   unfolding editKept
   kept-left = pick-true (isAccepted (editVerdict t kept r replacement)) _ _ granted
 
@@ -89,7 +90,7 @@ module _ (t kept : List ℕ) (r : ℕ) (replacement : List ℕ) (granted : isAcc
   unfolding editedBytes
   others-stay x other apart =
       ap (λ (l : List ℕ). rowBytes l x) kept-left ∙
-      rows-stay (editedRows e r kept) (touchedBy (look e) r) (rows e) kept x
+      rows-stay (editedRows e r kept) (sourceAt e) (touchedBy (look e) r) (rows e) kept x
       (test-case (touchedBy (look e) r x)
       (λ (h : touchedBy (look e) r x ≡ true).
       absurd (⊎-elim other (rw table-left at apart) (touched-is (look e) r (formed-below _ (look e) (accepted-formed e ok)) x h)))
@@ -105,15 +106,15 @@ module _ (t kept : List ℕ) (r : ℕ) (replacement : List ℕ) (granted : isAcc
         edited-bytes t kept r replacement (is .ready .long) (accepted-gives t (run-granted t kept (own .accepted) .table)) ok (is .ready .roomy .room) settled
 
     room : length e ≤ length kept
-    room = rw long (is .ready .roomy .room)
+    room = rw edited-long (is .ready .roomy .room)
 
     -- byte for byte what a fresh run of the edited table leaves there
     pub edit-is-fresh-run : editKept t kept r replacement ≡ runResult (editTable t kept r replacement) kept
-    edit-is-fresh-run = rw table-left (fresh-left ∙ sym (run-leaves e kept (grant-run e kept passes room)))
+    edit-is-fresh-run = rw table-left (fresh-left ∙ sym (run-leaves e kept (grant-run e kept edited-passes room)))
 
     -- and so the edited table's own
     pub edit-owned : Own (editTable t kept r replacement) (editKept t kept r replacement)
-    edit-owned = rw (table-left, fresh-left) (fresh-owned e kept passes room)
+    edit-owned = rw (table-left, fresh-left) (fresh-owned e kept edited-passes room)
 
 -- after any number of accepted edits
 pub edits-owned : {t kept t′ kept′ : List ℕ} → Edits t kept t′ kept′ → Own t kept → Own t′ kept′

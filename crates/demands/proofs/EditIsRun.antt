@@ -1,14 +1,14 @@
 -- An edit of a table with its own kept result leaves what a fresh run of the edited table leaves.
 use Prim.Native.Nat.{ℕ, _^_, _≤_, _<_}
-use mathlib.Core.Path.{_≡_, refl, ap, sym, fun-ext, _∙_}
+use mathlib.Core.Path.{_≡_, refl, ap, ap₂, sym, fun-ext, _∙_}
 use mathlib.Core.Bool.{true, false}
 use mathlib.Core.List.{List}
 use lib.ListN.{length, take}
 use Rattle.basis.proofs.Pick.{test-case}
 use Rattle.row.specs.Names.{HEADER, LENGTH, place}
-use Rattle.row.specs.Bytes.{bytesOf}
+use Rattle.row.specs.Bytes.{sourceAt, bytesOf}
 use Rattle.row.proofs.Places.{header-below}
-use Rattle.row.proofs.Rows.{row-stays, take-stays}
+use Rattle.row.proofs.Rows.{row-stays, source-stays, take-stays}
 use Rattle.table.specs.Refusals.{width, rows}
 use Rattle.table.specs.Accepted.{Accepted}
 use Rattle.term.specs.Term.{Term, rowOf, termOf}
@@ -16,6 +16,7 @@ use Rattle.term.specs.Result.{renewed, result, touchedBy}
 use Rattle.term.specs.Bytes.{look, putRows}
 use Rattle.term.proofs.Names.{NamesBelow}
 use Rattle.term.proofs.WellFormed.{formed-below}
+use Rattle.term.proofs.Touched.{touched-itself}
 use Rattle.term.proofs.Edit.{untouched-result, edit-is-run}
 use Rattle.term.proofs.Placed.{put-rows-same}
 use Rattle.term.proofs.There.{rowBytes, rows-alike}
@@ -41,6 +42,11 @@ module _ (t kept : List ℕ) (r : ℕ) (new : List ℕ) (long : length new ≡ L
   unfolding look edited
   alike x other = sym (ap termOf (row-stays t r new long x other))
 
+  -- the replacement brings its own source
+  same-source : (x : ℕ) → (x ≡ r → ⊥) → sourceAt t x ≡ sourceAt e x
+  unfolding edited
+  same-source x other = sym (source-stays t r new long x other)
+
   pub rows-same : rows e ≡ rows t
   rows-same = same-rows e t same-head
 
@@ -57,9 +63,9 @@ module _ (t kept : List ℕ) (r : ℕ) (new : List ℕ) (long : length new ≡ L
   kept-head : take HEADER kept ≡ take HEADER t
   kept-head = ap (take HEADER) (sym own) ∙ fresh-head t kept ok room
 
-  kept-rows : putRows (λ x. true) (freshRows t) (rows t) kept ≡ kept
+  kept-rows : putRows (λ x. true) (freshRows t) (sourceAt t) (rows t) kept ≡ kept
   unfolding freshBytes
-  kept-rows = ap (putRows (λ x. true) (freshRows t) (rows t)) (sym (head-there t kept kept-head)) ∙ own
+  kept-rows = ap (putRows (λ x. true) (freshRows t) (sourceAt t) (rows t)) (sym (head-there t kept kept-head)) ∙ own
 
   -- the rows of the kept result are those of the fresh result
   part-look : (x : ℕ) → look (keptPart e kept) x ≡ freshRows t x
@@ -67,7 +73,7 @@ module _ (t kept : List ℕ) (r : ℕ) (new : List ℕ) (long : length new ≡ L
   part-look x =
       ap (λ (n : ℕ). look (take (place n) kept) x) rows-same ∙
       ap (λ (l : List ℕ). look (take (place (rows t)) l) x) (sym kept-rows) ∙
-      run-look LIMIT t kept ok (rw (← ok .head .size) room) kept-head x
+      run-look LIMIT t kept ok (rw (← ok .head .size) room) kept-head (sourceAt t) x
 
   same-rules : (x : ℕ) → freshRows t x ≡ result (modulus e) LIMIT (look t) x
   unfolding freshRows
@@ -86,11 +92,13 @@ module _ (t kept : List ℕ) (r : ℕ) (new : List ℕ) (long : length new ≡ L
   pub edited-bytes : editedBytes e r kept ≡ freshBytes e kept
   unfolding editedBytes freshBytes
   edited-bytes =
-      put-rows-same (touchedBy (look e) r) (touchedBy (look e) r) (editedRows e r kept) (freshRows e) (rows e) kept (λ x l. refl) (λ x l. edited-rows x) ∙
-      rows-alike (freshRows e) (touchedBy (look e) r) (λ x. true) (rows e) kept there ∙
-      ap (putRows (λ x. true) (freshRows e) (rows e)) (sym (head-there e kept (kept-head ∙ sym same-head)))
+      put-rows-same (touchedBy (look e) r) (touchedBy (look e) r) (editedRows e r kept) (freshRows e) (sourceAt e) (rows e) kept (λ x l. refl) (λ x l. edited-rows x) ∙
+      rows-alike (freshRows e) (sourceAt e) (touchedBy (look e) r) (λ x. true) (rows e) kept there ∙
+      ap (putRows (λ x. true) (freshRows e) (sourceAt e) (rows e)) (sym (head-there e kept (kept-head ∙ sym same-head)))
     where
-      there : (x : ℕ) → x < rows e → (touchedBy (look e) r x ≡ true → ⊥) → rowBytes kept x ≡ bytesOf (rowOf (freshRows e x))
+      there : (x : ℕ) → x < rows e → (touchedBy (look e) r x ≡ true → ⊥) → rowBytes kept x ≡ bytesOf (rowOf (freshRows e x)) (sourceAt e x)
       there x l other =
           ap (λ (b : List ℕ). rowBytes b x) (sym own) ∙ fresh-there t kept ok room x (rw rows-same at l) ∙
-          ap (λ (u : Term). bytesOf (rowOf u)) (untouched-fresh x (test-case (touchedBy (look e) r x) (λ h. absurd (other h)) (λ h. h)))
+          ap₂ (λ (u : Term) (s : ℕ). bytesOf (rowOf u) s)
+          (untouched-fresh x (test-case (touchedBy (look e) r x) (λ h. absurd (other h)) (λ h. h)))
+          (same-source x (λ same. other (ap (touchedBy (look e) r) same ∙ touched-itself (look e) r below′)))

@@ -7,9 +7,9 @@ use mathlib.Core.List.{List}
 use lib.ListN.{length, take}
 use lib.Seq.{sets, length-sets}
 use Rattle.row.specs.Names.{HEADER, place}
-use Rattle.row.specs.Bytes.{bytesOf}
+use Rattle.row.specs.Bytes.{sourceAt, bytesOf}
 use Rattle.row.proofs.Places.{header-below}
-use Rattle.row.proofs.Sets.{sets-same, copied-there}
+use Rattle.basis.proofs.Sets.{sets-same, copied-there}
 use Rattle.table.specs.Refusals.{rows}
 use Rattle.table.specs.Accepted.{Accepted}
 use Rattle.term.specs.Term.{rowOf}
@@ -34,14 +34,14 @@ module _ (t buffer : List ℕ) (ok : Accepted t) (room : length t ≤ length buf
   pub fresh-head : take HEADER (freshBytes t buffer) ≡ take HEADER t
   unfolding freshBytes
   fresh-head =
-      put-rows-head (λ x. true) (freshRows t) (rows t) (sets buffer 0 (take HEADER t)) ∙
+      put-rows-head (λ x. true) (freshRows t) (sourceAt t) (rows t) (sets buffer 0 (take HEADER t)) ∙
       copied-there HEADER t buffer header-fits (let h : HEADER ≤ length t = header-fits in omega arith)
 
   -- each row of the fresh result stands there
-  pub fresh-there : (x : ℕ) → x < rows t → rowBytes (freshBytes t buffer) x ≡ bytesOf (rowOf (freshRows t x))
+  pub fresh-there : (x : ℕ) → x < rows t → rowBytes (freshBytes t buffer) x ≡ bytesOf (rowOf (freshRows t x)) (sourceAt t x)
   unfolding freshBytes
   fresh-there x l =
-      rows-there (freshRows t) (λ y. true) (rows t) (sets buffer 0 (take HEADER t)) (rw length-sets (rw (← size) room)) x l refl
+      rows-there (freshRows t) (sourceAt t) (λ y. true) (rows t) (sets buffer 0 (take HEADER t)) (rw length-sets (rw (← size) room)) x l refl
 
   -- and is looked up there
   pub fresh-look : (x : ℕ) → look (take (length t) (freshBytes t buffer)) x ≡ freshRows t x
@@ -49,12 +49,12 @@ module _ (t buffer : List ℕ) (ok : Accepted t) (room : length t ≤ length buf
   fresh-look x =
       rw size
       (run-look LIMIT t (sets buffer 0 (take HEADER t)) ok (rw length-sets (rw (← size) room))
-      (copied-there HEADER t buffer header-fits (let h : HEADER ≤ length t = header-fits in omega arith)) x)
+      (copied-there HEADER t buffer header-fits (let h : HEADER ≤ length t = header-fits in omega arith)) (sourceAt t) x)
 
 -- a buffer that has the header and the rows of a fresh result: a fresh run into it changes nothing
-pub fresh-again : (t kept : List ℕ) → take HEADER kept ≡ take HEADER t → ((x : ℕ) → x < rows t → rowBytes kept x ≡ bytesOf (rowOf (freshRows t x))) → freshBytes t kept ≡ kept
+pub fresh-again : (t kept : List ℕ) → take HEADER kept ≡ take HEADER t → ((x : ℕ) → x < rows t → rowBytes kept x ≡ bytesOf (rowOf (freshRows t x)) (sourceAt t x)) → freshBytes t kept ≡ kept
 unfolding freshBytes
 fresh-again t kept head there =
-    ap (putRows (λ x. true) (freshRows t) (rows t)) (head-there t kept head) ∙
-    rows-alike (freshRows t) (λ x. true) (λ x. false) (rows t) kept (λ x l other. there x l) ∙
-    none-touched (freshRows t) (rows t) kept
+    ap (putRows (λ x. true) (freshRows t) (sourceAt t) (rows t)) (head-there t kept head) ∙
+    rows-alike (freshRows t) (sourceAt t) (λ x. true) (λ x. false) (rows t) kept (λ x l other. there x l) ∙
+    none-touched (freshRows t) (sourceAt t) (rows t) kept

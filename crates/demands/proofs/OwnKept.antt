@@ -17,7 +17,8 @@ use Rattle.basis.proofs.Pick.{or-false, or-true-right}
 use Rattle.basis.proofs.Reasons.{first-here, first-skips}
 use Rattle.basis.proofs.Counts.{any-here}
 use Rattle.row.specs.Names.{HEADER, place}
-use Rattle.row.specs.Bytes.{byte}
+use Rattle.bytes.specs.Numbers.{byte}
+use Rattle.row.specs.Bytes.{sourceAt}
 use Rattle.row.proofs.Places.{header-below}
 use Rattle.row.proofs.Rows.{row-stays, take-stays}
 use Rattle.table.specs.Refusals.{width, rows, refuse, accepted, given, checkRows, checkTable}
@@ -89,19 +90,19 @@ module _
     kept-head : take HEADER kept ≡ take HEADER t
     kept-head = ap (take HEADER) (sym settled) ∙ fresh-head t kept ok (ready .roomy .room)
 
-    kept-rows : putRows (λ x. true) (freshRows t) (rows t) kept ≡ kept
+    kept-rows : putRows (λ x. true) (freshRows t) (sourceAt t) (rows t) kept ≡ kept
     unfolding freshBytes
-    kept-rows = ap (putRows (λ x. true) (freshRows t) (rows t)) (sym (head-there t kept kept-head)) ∙ settled
+    kept-rows = ap (putRows (λ x. true) (freshRows t) (sourceAt t) (rows t)) (sym (head-there t kept kept-head)) ∙ settled
 
     part-accepted : checkTable part ≡ accepted
     unfolding keptPart freshRows modulus
-    part-accepted = gives-accepted part (rw kept-rows at (run-accepted LIMIT t kept ok room kept-head))
+    part-accepted = gives-accepted part (rw kept-rows at (run-accepted LIMIT t kept ok room kept-head (sourceAt t)))
 
     part-sort : (x : ℕ) → isArray (look part x) ≡ isArray (look t x)
     unfolding keptPart freshRows modulus
     part-sort x =
         ap (λ (l : List ℕ). isArray (look (take (place (rows t)) l) x)) (sym kept-rows) ∙
-        ap isArray (run-look LIMIT t kept ok room kept-head x) ∙
+        ap isArray (run-look LIMIT t kept ok room kept-head (sourceAt t) x) ∙
         result-sort (2 ^ width t) LIMIT (pow-pos (width t)) (look t) (accepted-formed t ok) x
 
     edited-head : take HEADER e ≡ take HEADER t

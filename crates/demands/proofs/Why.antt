@@ -10,6 +10,7 @@ use lib.ListN.{length, take, drop}
 use lib.Seq.{sets, sets-eq, take-at, drop-at}
 use Rattle.basis.proofs.Pick.{pick-true, or-true-left}
 use Rattle.range.specs.declared.Range.{Range}
+use Rattle.row.specs.Bytes.{sourceAt}
 use Rattle.table.specs.declared.Verdict.{Verdict}
 use Rattle.table.specs.Refusals.{rows, MOST}
 use Rattle.table.specs.Accepted.{Accepted}
@@ -135,11 +136,11 @@ module _ (t buffer : List ℕ) (x : ℕ) (space : List ℕ) (granted : isAccepte
 
   -- row x is READ m i
   module _ (m i : ℕ) (is : look t x ≡ read m i) where
-    pub text-is-walk : listOf t x ≡ list (freshRows t) (ranges t) x m i (walked t m i) (rowOf (freshRows t x))
+    pub text-is-walk : listOf t x ≡ list (freshRows t) (ranges t) (sourceAt t) x m i (walked t m i) (rowOf (freshRows t x))
     unfolding listOf listFor
-    text-is-walk = ap (listFor LIMIT (freshRows t) (ranges t) x (rowOf (freshRows t x))) is
+    text-is-walk = ap (listFor LIMIT (freshRows t) (ranges t) (sourceAt t) x (rowOf (freshRows t x))) is
 
-    pub list-is-walk : whyList t buffer x space ≡ sets space 0 (list (freshRows t) (ranges t) x m i (walked t m i) (rowOf (freshRows t x)))
+    pub list-is-walk : whyList t buffer x space ≡ sets space 0 (list (freshRows t) (ranges t) (sourceAt t) x m i (walked t m i) (rowOf (freshRows t x)))
     unfolding whyList
     list-is-walk = pick-true _ _ _ granted ∙ ap (sets space 0) text-is-walk
 
@@ -194,7 +195,10 @@ module _ (t buffer : List ℕ) (x : ℕ) (space : List ℕ) (granted : isAccepte
     as-many-as-compared = met-length (freshRows t) (ranges t) i (walked t m i)
 
     pub list-at-most : length (listOf t x) ≤ 256 * compared (walked t m i) + 256
-    list-at-most = rw text-is-walk (rw (← as-many-as-compared) (list-short (freshRows t) (ranges t) x m i (walked t m i) (freshRows t x)))
+    list-at-most =
+        let few : rows t ≤ MOST = ok .head .few in
+        rw text-is-walk
+        (rw (← as-many-as-compared) (list-short (freshRows t) (ranges t) (sourceAt t) x m i (walked t m i) (freshRows t x) (omega (arith, is-there))))
 
     -- no more stores than rows stand before x
     pub compared-at-most : compared (walked t m i) ≤ x

@@ -11,7 +11,7 @@ use Rattle.judge.specs.Run.{runVerdict}
 use Rattle.simplify.specs.Run.{runResult}
 use Rattle.simplify.specs.Edit.{editVerdict, editTable, editKept}
 
--- the rows of a result: those in its first 6 + 26n bytes
+-- the rows of a result: those in as many of its first bytes as the table has
 unfoldable pub rowsIn : List ℕ → List ℕ → ℕ → Term
 rowsIn t buffer = look (take (length t) buffer)
 

@@ -11,7 +11,8 @@ use lib.Pow.{pow-mono, pow-pos}
 use Rattle.range.specs.Store.{kept}
 use Rattle.row.specs.declared.Row.{Row}
 use Rattle.row.specs.Names.{HEADER, place}
-use Rattle.row.specs.Bytes.{rowAt, Read, Small}
+use Rattle.bytes.specs.Numbers.{Read}
+use Rattle.row.specs.Bytes.{rowAt, sourceAt, Small}
 use Rattle.row.proofs.Places.{header-below, room-in}
 use Rattle.walks.specs.Ready.{NamesBelow}
 use Rattle.table.specs.Refusals.{MOST, LARGEST, width, rows}
@@ -80,7 +81,7 @@ module _ (t buffer : List ℕ) (x : ℕ) (can : Explainable t buffer x) where
     unfolding freshBytes
     row-left =
         ap (λ (l : List ℕ). rowAt l x) (run .result) ∙
-        put-rows-row (λ y. true) (freshRows t) (rows t) (sets buffer 0 (take HEADER t)) (rw (length-sets, ← ok .head .size) (can .room))
+        put-rows-row (λ y. true) (freshRows t) (sourceAt t) (rows t) (sets buffer 0 (take HEADER t)) (rw (length-sets, ← ok .head .size) (can .room))
         (λ y l e. fits-fields y l) x (can .row)
 
     names-left : (y : ℕ) → y < rows t → NamesBelow y (look left y)
@@ -101,7 +102,8 @@ module _ (t buffer : List ℕ) (x : ℕ) (can : Explainable t buffer x) where
 
     -- the list over the bytes is that of the promise
     list-by : (u : Term) → Names (Below (look t) x) u
-        → listFor LIMIT (look left) (kept store) x (rowAt left x) u ≡ listFor LIMIT (freshRows t) (rangeOf (modulus t) (freshRows t)) x (rowOf (freshRows t x)) u
+        → listFor LIMIT (look left) (kept store) (sourceAt t) x (rowAt left x) u ≡
+        listFor LIMIT (freshRows t) (rangeOf (modulus t) (freshRows t)) (sourceAt t) x (rowOf (freshRows t x)) u
     unfolding listFor list
     list-by (const k) n = refl
     list-by (var name k h) n = refl
@@ -112,20 +114,20 @@ module _ (t buffer : List ℕ) (x : ℕ) (can : Explainable t buffer x) where
     list-by (read m i) n =
         let array : m < rows t = omega (arith, n .0 .below, can .row) in
         let index : i < rows t = omega (arith, n .1 .below, can .row) in
-        ap₂ (λ (ws : List ℕ) (y : Row). readLine x m i ++ ws ++ resultLine x y)
-        (sym (lines-local (rows t) (freshRows t) (look left) (rangeOf (modulus t) (freshRows t)) (kept store) (λ y l. formed .names y)
+        ap₂ (λ (ws : List ℕ) (y : Row). readLine (sourceAt t x) x m i ++ ws ++ resultLine x y (sourceAt t x))
+        (sym (lines-local (rows t) (freshRows t) (look left) (rangeOf (modulus t) (freshRows t)) (kept store) (sourceAt t) (λ y l. formed .names y)
         (λ y l. sym (run .rows-are y l)) (λ y l word. sym (run .ranges-are y l (sym (fresh-sort y) ∙ word))) i index (fresh-sort i ∙ n .1 .sort) LIMIT m array))
         row-left
     list-by fresh n = refl
     list-by (write a b c) n = refl
 
-    list-is : listFor LIMIT (look left) (kept store) x (rowAt left x) (look t x) ≡ listOf t x
+    list-is : listFor LIMIT (look left) (kept store) (sourceAt t) x (rowAt left x) (look t x) ≡ listOf t x
     unfolding listOf
     list-is = list-by (look t x) (accepted-formed t ok .names x)
 
     -- measured, with the space lent and a byte to spare
     module _ {spare spare′ : List ℕ} {size : ℕ}
-        (measured : Put spare 0 (listFor LIMIT (look left) (kept store) x (rowAt left x) (look t x)) (most (LIMIT + 1)) spare′ size) where
+        (measured : Put spare 0 (listFor LIMIT (look left) (kept store) (sourceAt t) x (rowAt left x) (look t x)) (most (LIMIT + 1)) spare′ size) where
       size-is : size ≡ length (listOf t x)
       size-is = measured .next ∙ zero-add _ ∙ ap length list-is
 
@@ -144,7 +146,7 @@ module _ (t buffer : List ℕ) (x : ℕ) (can : Explainable t buffer x) where
             rw old (explained-short can space (rw (← size-is) h) (is ∙ ap (listing 22 0 0 0) size-is))
 
       pub explain-fits : {space listed : List ℕ} {n e : ℕ} → size ≤ length space
-          → Put space 0 (listFor LIMIT (look left) (kept store) x (rowAt left x) (look t x)) (most (LIMIT + 1)) listed e → Read (rows t) 65536 n
+          → Put space 0 (listFor LIMIT (look left) (kept store) (sourceAt t) x (rowAt left x) (look t x)) (most (LIMIT + 1)) listed e → Read (rows t) 65536 n
           → Explained t buffer x space (record { answer = record { refusal = 0; row = 0; removed = removed; touched = n }; length = size }) left listed
       explain-fits {space} {listed} {n} h put counted =
           rw (put .written, list-is, counted .is, run .counted, run .result, size-is) (explained-fits can space (rw (← size-is) h))

@@ -1,15 +1,16 @@
 -- The list of one read: what its parts ask, and that its lines are the list.
-use Prim.Native.Nat.{ℕ, suc, _+_, _*_, _≤_}
+use Prim.Native.Nat.{ℕ, suc, _+_, _*_, _^_, _≤_}
 use native.Mathlib.Nat.{le-refl}
 use native.Mathlib.Omega.{arith}
 use mathlib.Core.Path.{_≡_, refl, sym, ap, _∙_}
 use mathlib.Core.Bool.{true, true≢false}
-use mathlib.Core.List.{List, _++_}
+use mathlib.Core.List.{List}
 use lib.ListN.{length}
 use Rattle.range.specs.Store.{kept}
+use Rattle.bytes.specs.Numbers.{Read}
 use Rattle.row.specs.declared.Row.{Row}
 use Rattle.row.specs.Names.{LENGTH, place}
-use Rattle.row.specs.Bytes.{rowAt, Decoded}
+use Rattle.row.specs.Bytes.{rowAt, sourceAt, Decoded}
 use Rattle.walks.specs.declared.relation.Index.{Index}
 use Rattle.walks.specs.Ready.{NamesBelow, Reached, Standing, Sought}
 use Rattle.walks.proofs.Reach.{row-room, row-reached}
@@ -17,12 +18,11 @@ use Rattle.walks.proofs.Terms.{term-case}
 use Rattle.simplify.specs.Answer.{LIMIT}
 use Rattle.term.specs.Term.{Term, read, termOf, isRead}
 use Rattle.term.specs.Bytes.{look}
-use Rattle.term.specs.Walk.{walk}
-use Rattle.text.specs.Text.{ascii, Put}
+use Rattle.text.specs.Text.{Put}
 use Rattle.text.proofs.Puts.{put-then, put-length}
-use Rattle.lines.specs.Lines.{line}
-use Rattle.listing.specs.List.{readLine, resultLine, walkLines, list, listFor, most}
+use Rattle.listing.specs.List.{readLine, resultLine, list, listFor, most}
 use Rattle.explanation.specs.Ready.{Telling, Listable}
+use Rattle.explanation.proofs.Steps.{lines}
 
 -- a row that is a READ reads the array a at the index b
 read-row : (x : Row) → isRead (termOf x) ≡ true → termOf x ≡ read (x .a) (x .b)
@@ -58,20 +58,22 @@ module _ (T R S l : List ℕ) (r : ℕ) (given : Listable T R r) {x : Row} (row 
   pub list-result : place r + LENGTH ≤ length R
   list-result = row-room R (suc r) r (given .rows) (le-refl (suc r))
 
-  module _ {m₁ : List ℕ} {next : ℕ} (head : Put l 0 (readLine r (x .a) (x .b)) 82 m₁ next) where
-    pub list-walks : {j : Index} → Sought (look R) (kept S) (x .b) j → Telling R S next LIMIT r (x .b) j (x .a)
+  module _ {source : ℕ} (recorded : Read (sourceAt T r) (2 ^ 32) source) {m₁ : List ℕ} {next : ℕ}
+      (head : Put l 0 (readLine source r (x .a) (x .b)) 116 m₁ next) where
+    pub list-walks : {j : Index} → Sought (look R) (kept S) (x .b) j → Telling T R S next LIMIT r (x .b) j (x .a)
     list-walks sought = record {
+      room = given .room;
       walking = record { rows = standing; index = sought; below = names .0 };
       early = omega (arith, head .few);
       few = le-refl LIMIT;
     }
 
-    module _ {m₂ : List ℕ} {end : ℕ} (walked : Put m₁ next (walkLines (look R) (kept S) (x .b) (walk (look R) (kept S) (x .b) LIMIT (x .a))) (256 * LIMIT + 40) m₂ end) where
+    module _ {m₂ : List ℕ} {end : ℕ} (walked : Put m₁ next (lines (look R) (kept S) (sourceAt T) (x .b) LIMIT (x .a)) (256 * LIMIT + 40) m₂ end) where
       pub list-length : {m₃ some : List ℕ} {k e : ℕ} → Put m₂ end some k m₃ e → length m₃ ≡ length l
       list-length p = put-length p ∙ put-length walked ∙ put-length head
 
-      pub list-done : {y : Row} {m₃ : List ℕ} {e : ℕ} → Decoded R r y → Put m₂ end (ascii "result " ++ line r y) 154 m₃ e
-          → Put l 0 (listFor LIMIT (look R) (kept S) r (rowAt R r) (look T r)) (most (LIMIT + 1)) m₃ e
-      unfolding listFor list resultLine
+      pub list-done : {y : Row} {m₃ : List ℕ} {e : ℕ} → Decoded R r y → Put m₂ end (resultLine r y source) 175 m₃ e
+          → Put l 0 (listFor LIMIT (look R) (kept S) (sourceAt T) r (rowAt R r) (look T r)) (most (LIMIT + 1)) m₃ e
+      unfolding listFor list
       list-done y-is last =
-          rw (reads, ← y-is .is) (put-then {i = 256 * LIMIT + 122} (put-then head walked (le-refl _)) last (omega arith))
+          rw (reads, ← y-is .is, ← recorded .is) (put-then {i = 256 * LIMIT + 156} (put-then head walked (le-refl _)) last (omega arith))

@@ -7,8 +7,9 @@ use mathlib.Core.List.{List, _++_}
 use lib.ListN.{length, take, drop}
 use lib.Seq.{sets, sets-eq, length-take-le}
 use Rattle.row.specs.Names.{HEADER, place}
+use Rattle.row.specs.Bytes.{sourceAt}
 use Rattle.row.proofs.Places.{header-below}
-use Rattle.row.proofs.Sets.{sets-same, drop-sets, copied-there}
+use Rattle.basis.proofs.Sets.{sets-same, drop-sets, copied-there}
 use Rattle.table.specs.Refusals.{rows}
 use Rattle.table.specs.Accepted.{Accepted}
 use Rattle.term.proofs.Placed.{put-rows-behind}
@@ -30,7 +31,7 @@ module _ (t buffer : List ℕ) (ok : Accepted t) (room : length t ≤ length buf
   fresh-behind =
       let size : length t ≡ place (rows t) = ok .head .size in
       let fits : HEADER ≤ length t = rw size (header-below (rows t)) in
-      put-rows-behind (λ x. true) (freshRows t) (rows t) (sets buffer 0 (take HEADER t)) (length t) (rw size (le-refl (place (rows t)))) ∙
+      put-rows-behind (λ x. true) (freshRows t) (sourceAt t) (rows t) (sets buffer 0 (take HEADER t)) (length t) (rw size (le-refl (place (rows t)))) ∙
       drop-sets (length t) buffer 0 (take HEADER t) (rw (length-take-le HEADER t fits, zero-add) fits)
 
   -- saved before the run, and put back after it

@@ -8,7 +8,8 @@ use Rattle.range.specs.declared.Range.{Range}
 use Rattle.range.specs.Store.{kept}
 use Rattle.row.specs.declared.Row.{Row}
 use Rattle.row.specs.Names.{WRITE, LENGTH, place}
-use Rattle.row.specs.Bytes.{Decoded}
+use Rattle.bytes.specs.Numbers.{Read}
+use Rattle.row.specs.Bytes.{sourceAt, Decoded}
 use Rattle.walks.specs.declared.relation.Index.{Index}
 use Rattle.walks.specs.Ready.{NamesBelow, Walking, Comparing}
 use Rattle.walks.proofs.Reach.{row-room}
@@ -29,16 +30,20 @@ use Rattle.explanation.specs.Ready.{Telling}
 
 -- ---- over lookups
 
-module _ (f : ℕ → Term) (g : ℕ → Range) (i : ℕ) where
-  abbrev lines : ℕ → ℕ → List ℕ
-  lines left m = walkLines f g i (walk f g i left m)
+module _ (f : ℕ → Term) (g : ℕ → Range) (source : ℕ → ℕ) (i : ℕ) where
+  abbrev pub lines : ℕ → ℕ → List ℕ
+  lines left m = walkLines f g source i (walk f g i left m)
+
+  -- the line of a store as a walk meets it
+  abbrev pub lineOf : Met → List ℕ
+  lineOf s = storeLine (source (s .store)) i s
 
   pub none-left : (m : ℕ) → lines 0 m ≡ standsLine m
   unfolding walkLines walk met storeLines endLine
   none-left m = refl
 
   -- at a row that is no store
-  at-none : (m : ℕ) (on : ℕ → Walk) (t : Term) → NoStore t → walkLines f g i (walkAt f g i m on t) ≡ standsLine m
+  at-none : (m : ℕ) (on : ℕ → Walk) (t : Term) → NoStore t → walkLines f g source i (walkAt f g i m on t) ≡ standsLine m
   unfolding walkLines walkAt met storeLines endLine
   at-none m on (const k) h = refl
   at-none m on (var name k u) h = refl
@@ -63,70 +68,85 @@ module _ (f : ℕ → Term) (g : ℕ → Range) (i : ℕ) where
     unfolding meets indexOf
     meets-here = rw (is, told)
 
-    walks : lines (suc left) m ≡ walkLines f g i (step m a c (walk f g i left) (knownBy why))
+    walks : lines (suc left) m ≡ walkLines f g source i (step m a c (walk f g i left) (knownBy why))
     unfolding walk walkAt
     walks = rw (is, told, ← related-reason f g b i)
 
-    known-as : (k : Relation) → knownBy why ≡ k → lines (suc left) m ≡ walkLines f g i (step m a c (walk f g i left) k)
-    known-as k e = walks ∙ ap (λ (u : Relation). walkLines f g i (step m a c (walk f g i left) u)) e
+    known-as : (k : Relation) → knownBy why ≡ k → lines (suc left) m ≡ walkLines f g source i (step m a c (walk f g i left) k)
+    known-as k e = walks ∙ ap (λ (u : Relation). walkLines f g source i (step m a c (walk f g i left) u)) e
 
-    pub lines-found : knownBy why ≡ Same → lines (suc left) m ≡ storeLine i here ++ foundLine c
+    pub lines-found : knownBy why ≡ Same → lines (suc left) m ≡ lineOf here ++ foundLine c
     unfolding step walkLines met storeLines endLine
     lines-found e =
         known-as Same e ∙
-        ap (λ (l : List ℕ). l ++ foundLine c) (append-nil (storeLine i (meets f g i m))) ∙ ap (λ (s : Met). storeLine i s ++ foundLine c) meets-here
+        ap (λ (l : List ℕ). l ++ foundLine c) (append-nil (lineOf (meets f g i m))) ∙ ap (λ (s : Met). lineOf s ++ foundLine c) meets-here
 
-    pub lines-stopped : knownBy why ≡ Unknown → lines (suc left) m ≡ storeLine i here ++ standsLine m
+    pub lines-stopped : knownBy why ≡ Unknown → lines (suc left) m ≡ lineOf here ++ standsLine m
     unfolding step walkLines met storeLines endLine
     lines-stopped e =
         known-as Unknown e ∙
-        ap (λ (l : List ℕ). l ++ standsLine m) (append-nil (storeLine i (meets f g i m))) ∙ ap (λ (s : Met). storeLine i s ++ standsLine m) meets-here
+        ap (λ (l : List ℕ). l ++ standsLine m) (append-nil (lineOf (meets f g i m))) ∙ ap (λ (s : Met). lineOf s ++ standsLine m) meets-here
 
-    pub lines-passed : knownBy why ≡ Apart → lines (suc left) m ≡ storeLine i here ++ lines left a
+    pub lines-passed : knownBy why ≡ Apart → lines (suc left) m ≡ lineOf here ++ lines left a
     unfolding step walkLines met storeLines endLine
     lines-passed e =
         known-as Apart e ∙
-        append-assoc (storeLine i (meets f g i m)) (storeLines i (met f g i (walk f g i left a))) (endLine (walk f g i left a)) ∙
-        ap (λ (s : Met). storeLine i s ++ walkLines f g i (walk f g i left a)) meets-here
+        append-assoc (lineOf (meets f g i m)) (storeLines source i (met f g i (walk f g i left a))) (endLine (walk f g i left a)) ∙
+        ap (λ (s : Met). lineOf s ++ lines left a) meets-here
 
 -- ---- the loop
 
 -- at array row n, with `compared` stores behind, whose lines are `done`
-pub record Told (R S l : List ℕ) (at limit i m : ℕ) (r : ℕ) (now : List ℕ) (next n compared : ℕ) : Type 0 where
+pub record Told (T R S l : List ℕ) (at limit i m : ℕ) (r : ℕ) (now : List ℕ) (next n compared : ℕ) : Type 0 where
   pub done : List ℕ
   pub put : Put l at done (256 * compared) now next
-  pub rest : done ++ walkLines (look R) (kept S) i (walk (look R) (kept S) i (limit - compared) n) ≡ walkLines (look R) (kept S) i (walk (look R) (kept S) i limit m)
+  pub rest : done ++ lines (look R) (kept S) (sourceAt T) i (limit - compared) n ≡ lines (look R) (kept S) (sourceAt T) i limit m
   pub below : n < r
   pub few : compared ≤ limit
 
-module _ (R S l : List ℕ) (at limit r i : ℕ) (j : Index) (m : ℕ) (given : Telling R S at limit r i j m) where
+module _ (T R S l : List ℕ) (at limit r i : ℕ) (j : Index) (m : ℕ) (given : Telling T R S at limit r i j m) where
   abbrev text : List ℕ
-  text = walkLines (look R) (kept S) i (walk (look R) (kept S) i limit m)
+  text = lines (look R) (kept S) (sourceAt T) i limit m
 
-  pub tell-begins : Told R S l at limit i m r l at m 0
+  pub tell-begins : Told T R S l at limit i m r l at m 0
   tell-begins = record {
     done = [];
     put = put-none l at;
-    rest = ap (λ (k : ℕ). walkLines (look R) (kept S) i (walk (look R) (kept S) i k m)) (omega arith);
+    rest = ap (λ (k : ℕ). lines (look R) (kept S) (sourceAt T) i k m) (omega arith);
     below = given .walking .below;
     few = omega arith;
   }
 
-  module _ {now : List ℕ} {next n compared : ℕ} (inv : Told R S l at limit i m r now next n compared) where
+  module _ {now : List ℕ} {next n compared : ℕ} (inv : Told T R S l at limit i m r now next n compared) where
     pub tell-walks : Walking R S r i j n
     tell-walks = record { rows = given .walking .rows; index = given .walking .index; below = inv .below }
 
     pub tell-decodes : place n + LENGTH ≤ length R
     tell-decodes = row-room R r n (given .walking .rows) (inv .below)
 
+    pub tell-sources : place n + LENGTH ≤ length T
+    unfolding place
+    tell-sources = omega (arith, given .room, inv .below)
+
+    pub tell-near : next < 2 ^ 31
+    tell-near = omega (arith, inv .put .few, inv .few, given .early, given .few)
+
     pub tell-early : next < 2 ^ 32
-    tell-early = omega (arith, inv .put .few, inv .few, given .early, given .few)
+    tell-early = omega (arith, tell-near)
 
     pub tell-length : {now′ some : List ℕ} {k e : ℕ} → Put now next some k now′ e → length now′ ≡ length l
     tell-length p = put-length p ∙ put-length (inv .put)
 
+    -- behind the line of a store, wherever it begins and whatever it says
+    module _ {now₂ store : List ℕ} {begin next₂ : ℕ} (line : Put now begin store 256 now₂ next₂) where
+      pub tell-early-2 : begin < 2 ^ 31 → next₂ < 2 ^ 32
+      tell-early-2 near = omega (arith, line .few)
+
+      pub tell-length-2 : {now′ some : List ℕ} {k e : ℕ} → Put now₂ next₂ some k now′ e → length now′ ≡ length l
+      tell-length-2 p = put-length p ∙ put-length line ∙ put-length (inv .put)
+
     -- the last line
-    finish : {now′ : List ℕ} {e : ℕ} (last : List ℕ) → walkLines (look R) (kept S) i (walk (look R) (kept S) i (limit - compared) n) ≡ last
+    finish : {now′ : List ℕ} {e : ℕ} (last : List ℕ) → lines (look R) (kept S) (sourceAt T) i (limit - compared) n ≡ last
         → Put now next last 40 now′ e → Put l at text (256 * limit + 40) now′ e
     finish last e p =
         let whole : inv .done ++ last ≡ text = ap (λ (ys : List ℕ). inv .done ++ ys) (sym e) ∙ inv .rest in
@@ -135,33 +155,33 @@ module _ (R S l : List ℕ) (at limit r i : ℕ) (j : Index) (m : ℕ) (given : 
     pub tell-spent : {now′ : List ℕ} {e : ℕ} → limit ≤ compared → Put now next (standsLine n) 40 now′ e → Put l at text (256 * limit + 40) now′ e
     tell-spent h p =
         let none : limit - compared ≡ 0 = omega (arith, inv .few) in
-        finish (standsLine n) (rw none (none-left (look R) (kept S) i n)) p
+        finish (standsLine n) (rw none (none-left (look R) (kept S) (sourceAt T) i n)) p
 
     module _ (more : compared < limit) {x : Row} (row : Decoded R n x) where
       left : limit - compared ≡ suc (limit - (compared + 1))
       left = omega arith
 
       pub tell-ends : {now′ : List ℕ} {e : ℕ} → (x .kind ≡ WRITE → ⊥) → Put now next (standsLine n) 40 now′ e → Put l at text (256 * limit + 40) now′ e
-      tell-ends h p = finish (standsLine n) (rw left (no-store-lines (look R) (kept S) i (limit - (compared + 1)) n (no-store R n x row h))) p
+      tell-ends h p = finish (standsLine n) (rw left (no-store-lines (look R) (kept S) (sourceAt T) i (limit - (compared + 1)) n (no-store R n x row h))) p
 
       module _ (kind : x .kind ≡ WRITE) where
         pub tell-compares : Comparing R S (x .b) i j
         tell-compares = store-compared R n x row S r i j tell-walks kind
 
-        module _ {why : Reason} (told : why ≡ reason (look R) (kept S) (x .b) i) {now₂ : List ℕ} {next₂ : ℕ}
-            (line : Put now next (storeLine i (record { store = n; index = x .b; why = why })) 256 now₂ next₂) where
-          pub tell-early-2 : next₂ < 2 ^ 32
-          tell-early-2 = omega (arith, line .few, inv .put .few, inv .few, given .early, given .few)
+        module _ {why : Reason} (told : why ≡ reason (look R) (kept S) (x .b) i) {source : ℕ} (recorded : Read (sourceAt T n) (2 ^ 32) source)
+            {now₂ : List ℕ} {next₂ : ℕ} (written : Put now next (storeLine source i (record { store = n; index = x .b; why = why })) 256 now₂ next₂) where
+          abbrev said : List ℕ
+          said = storeLine (sourceAt T n) i (record { store = n; index = x .b; why = why })
 
-          pub tell-length-2 : {now′ some : List ℕ} {k e : ℕ} → Put now₂ next₂ some k now′ e → length now′ ≡ length l
-          tell-length-2 p = put-length p ∙ put-length line ∙ put-length (inv .put)
+          line : Put now next said 256 now₂ next₂
+          line = rw (← recorded .is) written
 
           -- the store's line, and the last one
           finish-2 : {now′ : List ℕ} {e : ℕ} (last : List ℕ)
-              → walkLines (look R) (kept S) i (walk (look R) (kept S) i (suc (limit - (compared + 1))) n) ≡ storeLine i (record { store = n; index = x .b; why = why }) ++ last
+              → lines (look R) (kept S) (sourceAt T) i (suc (limit - (compared + 1))) n ≡ said ++ last
               → Put now₂ next₂ last 40 now′ e → Put l at text (256 * limit + 40) now′ e
           finish-2 last e p =
-              let whole : inv .done ++ storeLine i (record { store = n; index = x .b; why = why }) ++ last ≡ text =
+              let whole : inv .done ++ said ++ last ≡ text =
               append-assoc (inv .done) _ last ∙ ap (λ (ys : List ℕ). inv .done ++ ys) (sym e ∙ rw left) ∙ inv .rest in
               rw (← whole) (put-then {i = 256 * (compared + 1)} (put-then (inv .put) line (omega arith)) p (omega (arith, inv .few)))
 
@@ -169,26 +189,28 @@ module _ (R S l : List ℕ) (at limit r i : ℕ) (j : Index) (m : ℕ) (given : 
             pub tell-finds : {now′ : List ℕ} {e : ℕ} → k ≡ Same → Put now₂ next₂ (foundLine (x .c)) 40 now′ e → Put l at text (256 * limit + 40) now′ e
             tell-finds z p =
                 finish-2 (foundLine (x .c))
-                (lines-found (look R) (kept S) i (limit - (compared + 1)) n (x .a) (x .b) (x .c) (store-at R n x row kind) why told (sym known ∙ z)) p
+                (lines-found (look R) (kept S) (sourceAt T) i (limit - (compared + 1)) n (x .a) (x .b) (x .c) (store-at R n x row kind) why told (sym known ∙ z)) p
 
             pub tell-stops : {now′ : List ℕ} {e : ℕ} → k ≡ Unknown → Put now₂ next₂ (standsLine n) 40 now′ e → Put l at text (256 * limit + 40) now′ e
             tell-stops z p =
                 finish-2 (standsLine n)
-                (lines-stopped (look R) (kept S) i (limit - (compared + 1)) n (x .a) (x .b) (x .c) (store-at R n x row kind) why told (sym known ∙ z)) p
+                (lines-stopped (look R) (kept S) (sourceAt T) i (limit - (compared + 1)) n (x .a) (x .b) (x .c) (store-at R n x row kind) why told (sym known ∙ z)) p
 
             array-below : x .a < n
             array-below =
                 let named : NamesBelow n (write (x .a) (x .b) (x .c)) = rw (store-at R n x row kind) at (given .walking .rows .names n (inv .below)) in
                 named .0
 
-            pub tell-passes : k ≡ Apart → Told R S l at limit i m r now₂ next₂ (x .a) (compared + 1)
+            pub tell-passes : k ≡ Apart → Told T R S l at limit i m r now₂ next₂ (x .a) (compared + 1)
             tell-passes z = record {
-              done = inv .done ++ storeLine i (record { store = n; index = x .b; why = why });
+              done = inv .done ++ said;
               put = put-then (inv .put) line (omega arith);
               rest =
                   append-assoc (inv .done) _ _ ∙
                   ap (λ (ys : List ℕ). inv .done ++ ys)
-                  (sym (lines-passed (look R) (kept S) i (limit - (compared + 1)) n (x .a) (x .b) (x .c) (store-at R n x row kind) why told (sym known ∙ z)) ∙ rw left) ∙
+                  (sym
+                  (lines-passed (look R) (kept S) (sourceAt T) i (limit - (compared + 1)) n (x .a) (x .b) (x .c) (store-at R n x row kind) why told (sym known ∙ z)) ∙
+                  rw left) ∙
                   inv .rest;
               below = omega (arith, array-below, inv .below);
               few = omega arith;

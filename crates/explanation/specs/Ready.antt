@@ -13,8 +13,9 @@ use Rattle.walks.specs.declared.relation.Index.{Index}
 use Rattle.walks.specs.Ready.{NamesBelow, Standing, Walking}
 use Rattle.simplify.specs.Answer.{LIMIT}
 
--- of the lines of a walk that begins at array row m, written from `at` on
-pub record Telling (R S : List ℕ) (at limit r i : ℕ) (j : Index) (m : ℕ) : Type 0 where
+-- of the lines of a walk for READ row r that begins at array row m, written from `at` on
+pub record Telling (T R S : List ℕ) (at limit r i : ℕ) (j : Index) (m : ℕ) : Type 0 where
+  pub room : place r + LENGTH ≤ length T
   pub walking : Walking R S r i j m
   pub early : at < 2 ^ 16
   pub few : limit ≤ LIMIT

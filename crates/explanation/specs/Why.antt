@@ -7,6 +7,7 @@ use lib.ListN.{length}
 use lib.Seq.{sets}
 use lib.Dec.{eqb, leb, ltb}
 use Rattle.basis.specs.Reason.{Reason, _when_, first}
+use Rattle.row.specs.Bytes.{sourceAt}
 use Rattle.table.specs.declared.Verdict.{Verdict}
 use Rattle.table.specs.Refusals.{rows, given, checkRows, accepted}
 use Rattle.term.specs.Term.{rowOf, isRead}
@@ -20,9 +21,9 @@ use Rattle.simplify.specs.Run.{freshRows, freshBytes}
 use Rattle.explanation.specs.declared.Listing.{Listing}
 use Rattle.listing.specs.List.{listFor}
 
--- the list of row x of a table: the walk over its fresh result
+-- the list of row x of a table: the walk over its fresh result, with the instructions of the table's rows
 unfoldable pub listOf : List ℕ → ℕ → List ℕ
-listOf t x = listFor LIMIT (freshRows t) (rangeOf (modulus t) (freshRows t)) x (rowOf (freshRows t x)) (look t x)
+listOf t x = listFor LIMIT (freshRows t) (rangeOf (modulus t) (freshRows t)) (sourceAt t) x (rowOf (freshRows t x)) (look t x)
 
 -- 1 to 7
 unfoldable pub rowReasons : List ℕ → List ℕ → ℕ → List Reason

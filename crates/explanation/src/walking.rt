@@ -1,7 +1,7 @@
 // The list of one read.
 ghost use Prim.Native.Nat.{_+_, _*_};
 ghost use Rattle.range.specs.Store.{kept};
-ghost use Rattle.row.specs.Bytes.{rowAt};
+ghost use Rattle.row.specs.Bytes.{rowAt, sourceAt};
 ghost use Rattle.simplify.specs.Answer.{LIMIT};
 ghost use Rattle.term.specs.Bytes.{look};
 ghost use Rattle.term.specs.Walk.{walk};
@@ -19,10 +19,12 @@ use term::Met;
 use term::Relation;
 use walks::Index;
 
-// Writes a line for each store that the walk for index row i compares, from array row m on, and where the walk ends.
+// Writes a line for each store that the walk for index row i compares, from array row m on, and where the walk ends. The walk goes through the
+// result; the instructions of its rows are those of the table.
 fn put_walk(
     out: &mut [u8],
     at: usize,
+    table: &[u8],
     result: &[u8],
     store: &[u64; 2048],
     limit: usize,
@@ -31,8 +33,8 @@ fn put_walk(
     j: Index,
     m: usize,
 ) -> usize
-    requires { ⌜ Telling (now result) (now store) at limit r i j m ⌝ }
-    ensures { λ e. ⌜ Put (now (out .entry)) at (walkLines (look (now (result .entry))) (kept (now (store .entry))) i (walk (look (now (result .entry))) (kept (now (store .entry))) i limit m)) (256 * limit + 40) (now (out .exit)) e ⌝ }
+    requires { ⌜ Telling (now table) (now result) (now store) at limit r i j m ⌝ }
+    ensures { λ e. ⌜ Put (now (out .entry)) at (walkLines (look (now (result .entry))) (kept (now (store .entry))) (sourceAt (now (table .entry))) i (walk (look (now (result .entry))) (kept (now (store .entry))) i limit m)) (256 * limit + 40) (now (out .exit)) e ⌝ }
 {
     let mut next = at;
     let mut n = m;
@@ -47,6 +49,7 @@ fn put_walk(
         next = put_store(
             out,
             next,
+            Row::source_at(table, n),
             i,
             Met {
                 store: n,
@@ -67,13 +70,14 @@ fn put_walk(
 // Writes the list of READ row r of the table.
 pub fn put_list(out: &mut [u8], table: &[u8], result: &[u8], store: &[u64; 2048], r: usize) -> usize
     requires { ⌜ Listable (now table) (now result) r ⌝ }
-    ensures { λ e. ⌜ Put (now (out .entry)) 0 (listFor LIMIT (look (now (result .entry))) (kept (now (store .entry))) r (rowAt (now (result .entry)) r) (look (now (table .entry)) r)) (most (LIMIT + 1)) (now (out .exit)) e ⌝ }
+    ensures { λ e. ⌜ Put (now (out .entry)) 0 (listFor LIMIT (look (now (result .entry))) (kept (now (store .entry))) (sourceAt (now (table .entry))) r (rowAt (now (result .entry)) r) (look (now (table .entry)) r)) (most (LIMIT + 1)) (now (out .exit)) e ⌝ }
 {
     let x = Row::decode(table, r);
     let m = x.a;
     let i = x.b;
-    let next = put_read(out, 0, r, m, i);
+    let source = Row::source_at(table, r);
+    let next = put_read(out, 0, source, r, m, i);
     let j = walks::index_at(result, store, i);
-    let end = put_walk(out, next, result, store, LIMIT, r, i, j, m);
-    put_result(out, end, r, Row::decode(result, r))
+    let end = put_walk(out, next, table, result, store, LIMIT, r, i, j, m);
+    put_result(out, end, r, Row::decode(result, r), source)
 }

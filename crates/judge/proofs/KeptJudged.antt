@@ -12,7 +12,7 @@ use Rattle.basis.specs.Count.{anyBelow}
 use Rattle.basis.proofs.Pick.{or-true-left, or-true-right}
 use Rattle.basis.proofs.Counts.{any-zero, any-next, any-here}
 use Rattle.row.specs.Names.{HEADER, LENGTH, place}
-use Rattle.row.specs.Bytes.{byte}
+use Rattle.bytes.specs.Numbers.{byte}
 use Rattle.row.proofs.Places.{header-below, room-below}
 use Rattle.table.specs.declared.Verdict.{Verdict}
 use Rattle.table.specs.Refusals.{rows, checkTable}

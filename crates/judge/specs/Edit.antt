@@ -7,7 +7,7 @@ use lib.Dec.{leb, eqb}
 use Rattle.basis.specs.Reason.{Reason, _when_, first}
 use Rattle.basis.specs.Count.{anyBelow}
 use Rattle.row.specs.Names.{HEADER, LENGTH, place}
-use Rattle.row.specs.Bytes.{byte}
+use Rattle.bytes.specs.Numbers.{byte}
 use Rattle.table.specs.declared.Verdict.{Verdict}
 use Rattle.table.specs.Refusals.{rows, given, checkTable, accepted}
 use Rattle.term.specs.Term.{isArray}
@@ -15,7 +15,7 @@ use Rattle.term.specs.Bytes.{look}
 use Rattle.judge.specs.Verdict.{isAccepted}
 use Rattle.judge.specs.Run.{roomReasons}
 
--- the part of a kept result that is judged and renewed: its first 6 + 26n bytes
+-- the part of a kept result that is judged and renewed: as many of its first bytes as the table has
 unfoldable pub keptPart : List ℕ → List ℕ → List ℕ
 keptPart t kept = take (place (rows t)) kept
 

@@ -12,7 +12,7 @@ ghost use Rattle.lines.specs.Lines.{named, pair, head, refusal, line, li
 // the bytes that the first line of a result, a refusal, and the line of a row take at most
 pub const SHORT: usize = 64;
 
-pub const LINE: usize = 147;
+pub const LINE: usize = 168;
 
 // Writes a word and its number.
 fn put_named(out: &mut [u8], at: usize, word: &[u8], v: u64) -> usize
@@ -47,16 +47,24 @@ pub fn put_refusal(out: &mut [u8], number: u64, row: u64) -> usize
     put_pair(out, b"refused", number, b" row", row)
 }
 
-// Writes the line of row r, which is x.
-pub fn put_line(out: &mut [u8], at: usize, r: usize, x: Row) -> usize
+// Writes the line of row r, which is x and was recorded at instruction `source`.
+pub fn put_line(out: &mut [u8], at: usize, r: usize, x: Row, source: u64) -> usize
     requires { ⌜ at < 2 ^ 62 ⌝ }
-    ensures { λ e. ⌜ Put (now (out .entry)) at (line r x) LINE (now (out .exit)) e ⌝ }
+    ensures { λ e. ⌜ Put (now (out .entry)) at (line r x source) LINE (now (out .exit)) e ⌝ }
 {
     let next = put_decimal(out, at, r as u64);
     let end = put_spaced(
         out,
         next,
-        &[x.kind as u64, x.a as u64, x.b as u64, x.c as u64, x.k, x.h],
+        &[
+            x.kind as u64,
+            x.a as u64,
+            x.b as u64,
+            x.c as u64,
+            x.k,
+            x.h,
+            source,
+        ],
     );
     put_byte(out, end, b'\n')
 }
@@ -69,7 +77,8 @@ pub fn put_lines(out: &mut [u8], t: &[u8], from: usize, count: usize) -> usize
     let mut next = 0;
     let mut i = 0;
     while i < count {
-        next = put_line(out, next, from + i, Row::decode(t, from + i));
+        let r = from + i;
+        next = put_line(out, next, r, Row::decode(t, r), Row::source_at(t, r));
         i += 1;
     }
     next

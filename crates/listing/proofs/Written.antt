@@ -14,7 +14,7 @@ use Rattle.term.specs.declared.Met.{Met}
 use Rattle.text.specs.Text.{ascii, decimal, Put}
 use Rattle.text.proofs.Puts.{put-then, put-capped}
 use Rattle.lines.specs.Lines.{line, LINE}
-use Rattle.listing.specs.List.{rangeText, reasonText, readLine, storeLine, foundLine, standsLine}
+use Rattle.listing.specs.List.{rangeText, reasonText, accessText, readLine, storeLine, foundLine, standsLine, resultLine}
 
 -- a text, and one that begins with a word
 put-onto : {l m n xs : List ℕ} (word ys : List ℕ) {at p r i j k : ℕ} → Put l at xs i m p → Put m p (word ++ ys) j n r → i + j ≤ k → Put l at (xs ++ word ++ ys) k n r
@@ -68,29 +68,36 @@ undecided-put why e done = rw e (put-capped done (omega arith))
 
 -- ---- lines
 
-pub read-put : {l n o q : List ℕ} {at x y e : ℕ} (r m i : ℕ)
-    → Put l at (ascii "read " ++ decimal r) 25 n x → Put n x (ascii ": array " ++ decimal m) 28 o y → Put o y (ascii ", index " ++ decimal i ++ ascii "\n") 29 q e
-    → Put l at (readLine r m i) 82 q e
-unfolding readLine
-read-put r m i row array index =
-    put-last (ascii ", index ") (decimal i) (ascii "\n") (put-onto (ascii ": array ") (decimal m) row array (le-refl 53)) index (le-refl 82)
+pub access-put : {l m n : List ℕ} {at p e : ℕ} (source : ℕ) (word : List ℕ) (r : ℕ)
+    → Put l at (ascii "instruction " ++ decimal source) 32 m p → Put m p (word ++ decimal r) (length word + 20) n e
+    → Put l at (accessText source word r) (length word + 52) n e
+unfolding accessText
+access-put source word r instruction row = put-onto word (decimal r) instruction row (omega arith)
 
-pub indexes-put : {l m n o : List ℕ} {at p q r : ℕ} (store index i : ℕ)
-    → Put l at (ascii "store " ++ decimal store) 26 m p → Put m p (ascii ": index " ++ decimal index) 28 n q → Put n q (ascii " against " ++ decimal i) 29 o r
-    → Put l at (ascii "store " ++ decimal store ++ ascii ": index " ++ decimal index ++ ascii " against " ++ decimal i) 83 o r
-indexes-put store index i first second third =
-    put-onto (ascii " against ") (decimal i) (put-onto (ascii ": index ") (decimal index) first second (le-refl 54)) third (le-refl 83)
+pub read-put : {l n o q : List ℕ} {at x y e : ℕ} (source r m i : ℕ)
+    → Put l at (accessText source (ascii ": read ") r) 59 n x → Put n x (ascii ", array " ++ decimal m) 28 o y
+    → Put o y (ascii ", index " ++ decimal i ++ ascii "\n") 29 q e
+    → Put l at (readLine source r m i) 116 q e
+unfolding readLine
+read-put source r m i row array index =
+    put-last (ascii ", index ") (decimal i) (ascii "\n") (put-onto (ascii ", array ") (decimal m) row array (le-refl 87)) index (le-refl 116)
+
+pub indexes-put : {l m n o : List ℕ} {at p q r : ℕ} (source store index i : ℕ)
+    → Put l at (accessText source (ascii ": store ") store) 60 m p → Put m p (ascii ", index " ++ decimal index) 28 n q → Put n q (ascii " against " ++ decimal i) 29 o r
+    → Put l at (accessText source (ascii ": store ") store ++ ascii ", index " ++ decimal index ++ ascii " against " ++ decimal i) 117 o r
+indexes-put source store index i first second third =
+    put-onto (ascii " against ") (decimal i) (put-onto (ascii ", index ") (decimal index) first second (le-refl 88)) third (le-refl 117)
 
 pub why-put : {l m n o : List ℕ} {at p q r : ℕ} (why : Reason) → Put l at (ascii ", ") 2 m p → Put m p (reasonText why) 106 n q → Put n q (ascii "\n") 1 o r
     → Put l at (ascii ", " ++ reasonText why ++ ascii "\n") 109 o r
 why-put why front reason end = put-then (put-then front reason (le-refl 108)) end (le-refl 109)
 
-pub store-put : {l m n : List ℕ} {at p r : ℕ} (i : ℕ) (s : Met)
-    → Put l at (ascii "store " ++ decimal (s .store) ++ ascii ": index " ++ decimal (s .index) ++ ascii " against " ++ decimal i) 83 m p
+pub store-put : {l m n : List ℕ} {at p r : ℕ} (source i : ℕ) (s : Met)
+    → Put l at (accessText source (ascii ": store ") (s .store) ++ ascii ", index " ++ decimal (s .index) ++ ascii " against " ++ decimal i) 117 m p
     → Put m p (ascii ", " ++ reasonText (s .why) ++ ascii "\n") 109 n r
-    → Put l at (storeLine i s) 256 n r
+    → Put l at (storeLine source i s) 256 n r
 unfolding storeLine
-store-put i s rows reason = put-last (ascii ", ") (reasonText (s .why)) (ascii "\n") rows reason (omega arith)
+store-put source i s rows reason = put-last (ascii ", ") (reasonText (s .why)) (ascii "\n") rows reason (omega arith)
 
 pub found-put : {l m : List ℕ} {at r : ℕ} (c : ℕ) → Put l at (ascii "found element " ++ decimal c ++ ascii "\n") 35 m r → Put l at (foundLine c) 40 m r
 unfolding foundLine
@@ -100,5 +107,7 @@ pub stands-put : {l o : List ℕ} {at r : ℕ} (m : ℕ) → Put l at (ascii "st
 unfolding standsLine
 stands-put m done = put-capped done (omega arith)
 
-pub result-put : {l m n : List ℕ} {at p e : ℕ} (r : ℕ) (x : Row) → Put l at (ascii "result ") 7 m p → Put m p (line r x) LINE n e → Put l at (ascii "result " ++ line r x) 154 n e
-result-put r x front row = put-then front row (le-refl 154)
+pub result-put : {l m n : List ℕ} {at p e : ℕ} (r : ℕ) (x : Row) (source : ℕ) → Put l at (ascii "result ") 7 m p → Put m p (line r x source) LINE n e
+    → Put l at (resultLine r x source) 175 n e
+unfolding resultLine
+result-put r x source front row = put-then front row (le-refl 175)

@@ -22,19 +22,24 @@ reasonText (Offsets p q) = ascii "different offsets on a shared base, " ++ decim
 reasonText (Separate spans) = ascii "separate ranges, " ++ rangeText (spans .store) ++ ascii " and " ++ rangeText (spans .read)
 reasonText Undecided = ascii "undecided"
 
--- READ row r, of array m at index i
-unfoldable pub readLine : ℕ → ℕ → ℕ → List ℕ
-readLine r m i = ascii "read " ++ decimal r ++ ascii ": array " ++ decimal m ++ ascii ", index " ++ decimal i ++ ascii "\n"
+-- how the line of a load or a store begins: its instruction, where an engineer looks first, and its row
+unfoldable pub accessText : ℕ → List ℕ → ℕ → List ℕ
+accessText source word r = ascii "instruction " ++ decimal source ++ word ++ decimal r
 
--- a store that was compared with index row i
-unfoldable pub storeLine : ℕ → Met → List ℕ
-storeLine i s =
-    ascii "store " ++ decimal (s .store) ++ ascii ": index " ++ decimal (s .index) ++ ascii " against " ++ decimal i ++ ascii ", " ++
+-- READ row r, of array m at index i, recorded at instruction `source`
+unfoldable pub readLine : ℕ → ℕ → ℕ → ℕ → List ℕ
+readLine source r m i = accessText source (ascii ": read ") r ++ ascii ", array " ++ decimal m ++ ascii ", index " ++ decimal i ++ ascii "\n"
+
+-- a store that was recorded at instruction `source` and compared with index row i
+unfoldable pub storeLine : ℕ → ℕ → Met → List ℕ
+storeLine source i s =
+    accessText source (ascii ": store ") (s .store) ++ ascii ", index " ++ decimal (s .index) ++ ascii " against " ++ decimal i ++ ascii ", " ++
     reasonText (s .why) ++ ascii "\n"
 
-unfoldable pub storeLines : ℕ → List Met → List ℕ
-storeLines i [] = []
-storeLines i (s ∷ ss) = storeLine i s ++ storeLines i ss
+-- stores, each with the instruction of its row
+unfoldable pub storeLines : (ℕ → ℕ) → ℕ → List Met → List ℕ
+storeLines source i [] = []
+storeLines source i (s ∷ ss) = storeLine (source (s .store)) i s ++ storeLines source i ss
 
 -- where a walk ended: the row of the element that was found, or the array that the read stands on
 unfoldable pub foundLine : ℕ → List ℕ
@@ -49,24 +54,24 @@ endLine (passed m onward) = endLine onward
 endLine (undecided m) = standsLine m
 endLine (ended m) = standsLine m
 
--- result row r, which is x, as `show` prints it
-unfoldable pub resultLine : ℕ → Row → List ℕ
-resultLine r x = ascii "result " ++ line r x
+-- result row r, which is x and was recorded at instruction `source`, as `show` prints it
+unfoldable pub resultLine : ℕ → Row → ℕ → List ℕ
+resultLine r x source = ascii "result " ++ line r x source
 
--- the stores that the walk w compared for index row i, nearest first, and where it ended
-unfoldable pub walkLines : (ℕ → Term) → (ℕ → Range) → ℕ → Walk → List ℕ
-walkLines f g i w = storeLines i (met f g i w) ++ endLine w
+-- the stores that the walk w compared for index row i, nearest first, and where it ended; `source` has the instruction of each row
+unfoldable pub walkLines : (ℕ → Term) → (ℕ → Range) → (ℕ → ℕ) → ℕ → Walk → List ℕ
+walkLines f g source i w = storeLines source i (met f g i w) ++ endLine w
 
 -- the list of READ row r, of array m at index i, whose walk is w; x is the row that it became
-unfoldable pub list : (ℕ → Term) → (ℕ → Range) → ℕ → ℕ → ℕ → Walk → Row → List ℕ
-list f g r m i w x = readLine r m i ++ walkLines f g i w ++ resultLine r x
+unfoldable pub list : (ℕ → Term) → (ℕ → Range) → (ℕ → ℕ) → ℕ → ℕ → ℕ → Walk → Row → List ℕ
+list f g source r m i w x = readLine (source r) r m i ++ walkLines f g source i w ++ resultLine r x (source r)
 
 -- the bytes that a list takes at most, by the number of stores compared
 abbrev pub most : ℕ → ℕ
 most compared = 256 * compared + 256
 
 -- the list of row r of a table, which is the given term: a read compares at most `limit` stores. (Of a row that is no READ none is asked for.)
-module _ (limit : ℕ) (f : ℕ → Term) (g : ℕ → Range) (r : ℕ) (x : Row) where
+module _ (limit : ℕ) (f : ℕ → Term) (g : ℕ → Range) (source : ℕ → ℕ) (r : ℕ) (x : Row) where
   unfoldable pub listFor : Term → List ℕ
   listFor (const k) = []
   listFor (var name k h) = []
@@ -74,6 +79,6 @@ module _ (limit : ℕ) (f : ℕ → Term) (g : ℕ → Range) (r : ℕ) (x : Row
   listFor (sum a b k) = []
   listFor (diff a b k) = []
   listFor (neg a k) = []
-  listFor (read m i) = list f g r m i (walk f g i limit m) x
+  listFor (read m i) = list f g source r m i (walk f g i limit m) x
   listFor fresh = []
   listFor (write a b c) = []

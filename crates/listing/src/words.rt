@@ -12,8 +12,7 @@ ghost use Prim.Native.Nat.{_+_, _<_, _^_};
 ghost use mathlib.Core.List.{_++_};
 ghost use lib.ListN.{length};
 ghost use Rattle.text.specs.Text.{ascii, decimal, Put};
-ghost use Rattle.lines.specs.Lines.{line};
-ghost use Rattle.listing.specs.List.{rangeText, reasonText, readLine, storeLine, foundLine, standsLine};
+ghost use Rattle.listing.specs.List.{rangeText, reasonText, accessText, readLine, storeLine, foundLine, standsLine, resultLine};
 
 // Writes a word and a number.
 fn put_labelled(out: &mut [u8], at: usize, word: &[u8], v: u64) -> usize
@@ -82,23 +81,39 @@ pub fn put_reason(out: &mut [u8], at: usize, why: Reason) -> usize
     }
 }
 
-// Writes the first line: READ row r, of array m at index i.
-pub fn put_read(out: &mut [u8], at: usize, r: usize, m: usize, i: usize) -> usize
-    requires { ⌜ at < 2 ^ 32 ⌝ }
-    ensures { λ e. ⌜ Put (now (out .entry)) at (readLine r m i) 82 (now (out .exit)) e ⌝ }
+// Writes how the line of a load or a store begins: its instruction, a word, and its row.
+fn put_access(out: &mut [u8], at: usize, source: u64, word: &[u8], r: usize) -> usize
+    requires { ⌜ at + length (now word) < 2 ^ 61 ⌝ }
+    ensures { λ e. ⌜ Put (now (out .entry)) at (accessText source (now (word .entry)) r) (length (now (word .entry)) + 52) (now (out .exit)) e ⌝ }
 {
-    let array = put_labelled(out, at, b"read ", r as u64);
-    let index = put_labelled(out, array, b": array ", m as u64);
+    let next = put_labelled(out, at, b"instruction ", source);
+    put_labelled(out, next, word, r as u64)
+}
+
+// Writes the first line: READ row r, of array m at index i, recorded at instruction `source`.
+pub fn put_read(out: &mut [u8], at: usize, source: u64, r: usize, m: usize, i: usize) -> usize
+    requires { ⌜ at < 2 ^ 32 ⌝ }
+    ensures { λ e. ⌜ Put (now (out .entry)) at (readLine source r m i) 116 (now (out .exit)) e ⌝ }
+{
+    let array = put_access(out, at, source, b": read ", r);
+    let index = put_labelled(out, array, b", array ", m as u64);
     put_last(out, index, b", index ", i as u64)
 }
 
 // Writes which store was compared, and the rows of the two indexes.
-fn put_indexes(out: &mut [u8], at: usize, store: usize, index: usize, i: usize) -> usize
+fn put_indexes(
+    out: &mut [u8],
+    at: usize,
+    source: u64,
+    store: usize,
+    index: usize,
+    i: usize,
+) -> usize
     requires { ⌜ at < 2 ^ 32 ⌝ }
-    ensures { λ r. ⌜ Put (now (out .entry)) at (ascii "store " ++ decimal store ++ ascii ": index " ++ decimal index ++ ascii " against " ++ decimal i) 83 (now (out .exit)) r ⌝ }
+    ensures { λ r. ⌜ Put (now (out .entry)) at (accessText source (ascii ": store ") store ++ ascii ", index " ++ decimal index ++ ascii " against " ++ decimal i) 117 (now (out .exit)) r ⌝ }
 {
-    let next = put_labelled(out, at, b"store ", store as u64);
-    let end = put_labelled(out, next, b": index ", index as u64);
+    let next = put_access(out, at, source, b": store ", store);
+    let end = put_labelled(out, next, b", index ", index as u64);
     put_labelled(out, end, b" against ", i as u64)
 }
 
@@ -112,13 +127,13 @@ fn put_why(out: &mut [u8], at: usize, why: Reason) -> usize
     put_byte(out, end, b'\n')
 }
 
-// Writes the line of a store that was compared with index row i.
-pub fn put_store(out: &mut [u8], at: usize, i: usize, s: Met) -> usize
+// Writes the line of a store that was recorded at instruction `source` and compared with index row i.
+pub fn put_store(out: &mut [u8], at: usize, source: u64, i: usize, s: Met) -> usize
     requires { ⌜ at < 2 ^ 32 ⌝ }
-    ensures { λ r. ⌜ Put (now (out .entry)) at (storeLine i s) 256 (now (out .exit)) r ⌝ }
+    ensures { λ r. ⌜ Put (now (out .entry)) at (storeLine source i s) 256 (now (out .exit)) r ⌝ }
 {
     let why = s.why;
-    let next = put_indexes(out, at, s.store, s.index, i);
+    let next = put_indexes(out, at, source, s.store, s.index, i);
     put_why(out, next, why)
 }
 
@@ -138,11 +153,11 @@ pub fn put_stands(out: &mut [u8], at: usize, m: usize) -> usize
     put_last(out, at, b"stands on array ", m as u64)
 }
 
-// Writes the last line: result row r, which is x.
-pub fn put_result(out: &mut [u8], at: usize, r: usize, x: Row) -> usize
+// Writes the last line: result row r, which is x and was recorded at instruction `source`.
+pub fn put_result(out: &mut [u8], at: usize, r: usize, x: Row, source: u64) -> usize
     requires { ⌜ at < 2 ^ 32 ⌝ }
-    ensures { λ e. ⌜ Put (now (out .entry)) at (ascii "result " ++ line r x) 154 (now (out .exit)) e ⌝ }
+    ensures { λ e. ⌜ Put (now (out .entry)) at (resultLine r x source) 175 (now (out .exit)) e ⌝ }
 {
     let next = put_word(out, at, b"result ");
-    put_line(out, next, r, x)
+    put_line(out, next, r, x, source)
 }

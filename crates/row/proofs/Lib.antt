@@ -1,7 +1,5 @@
 -- Laws of rows and their bytes.
 pub mod Places
-pub mod Numbers
-pub mod Sets
 pub mod Rows
 pub mod Whole
 pub mod Steps

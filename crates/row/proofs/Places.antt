@@ -18,6 +18,10 @@ pub header-below : (r : ℕ) → HEADER ≤ place r
 unfolding place
 header-below r = omega arith
 
+pub place-grows : {r n : ℕ} → r ≤ n → place r ≤ place n
+unfolding place
+place-grows h = omega arith
+
 pub place-suc : (r : ℕ) → place (suc r) ≡ place r + LENGTH
 unfolding place
 place-suc r = omega arith

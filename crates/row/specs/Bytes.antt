@@ -1,31 +1,13 @@
--- A row and its bytes: document 01, "Bytes of a table". Numbers are little endian.
-use Prim.Native.Nat.{ℕ, suc, _+_, _*_, _/_, _%_, _^_, _<_}
+-- A row and its bytes: document 01, "Bytes of a table". Behind the numbers of the row stands its source, the instruction that it was recorded at: document 02, A9.
+use Prim.Native.Nat.{ℕ, _+_, _^_, _<_}
 use mathlib.Core.Path.{_≡_}
 use mathlib.Core.Bool.{Bool, not, _||_}
 use mathlib.Core.List.{List, [], _∷_, _++_}
-use lib.ListN.{getD}
 use lib.Seq.{sets}
 use lib.Dec.{eqb}
+use Rattle.bytes.specs.Numbers.{byte, number, bytes}
 use Rattle.row.specs.declared.Row.{Row}
-use Rattle.row.specs.Names.{MARK-0, MARK-1, KIND, ZERO, A, B, C, K, H, place}
-
--- the byte at i, 0 past the end
-abbrev pub byte : List ℕ → ℕ → ℕ
-byte t i = getD t i 0
-
--- every byte of a list of bytes
-abbrev pub AllBytes : List ℕ → Type 0
-AllBytes t = (i : ℕ) → byte t i < 256
-
--- the number in the n bytes from i on
-unfoldable pub number : ℕ → List ℕ → ℕ → ℕ
-number ℕ.zero t i = 0
-number (suc n) t i = byte t i + 256 * number n t (i + 1)
-
--- the n bytes of a number
-unfoldable pub bytes : ℕ → ℕ → List ℕ
-bytes ℕ.zero v = []
-bytes (suc n) v = v % 256 ∷ bytes n (v / 256)
+use Rattle.row.specs.Names.{MARK-0, MARK-1, KIND, ZERO, A, B, C, K, H, SOURCE, place}
 
 -- the row of these numbers
 abbrev pub row : ℕ → ℕ → ℕ → ℕ → ℕ → ℕ → Row
@@ -46,22 +28,26 @@ rowFrom t at = record {
 unfoldable pub rowAt : List ℕ → ℕ → Row
 rowAt t r = rowFrom t (place r)
 
+-- the instruction that row r of a table was recorded at
+unfoldable pub sourceAt : List ℕ → ℕ → ℕ
+sourceAt t r = number 4 t (place r + SOURCE)
+
 -- the mark or the zero byte of the row that begins at `at` is wrong
 unfoldable pub markWrong : List ℕ → ℕ → Bool
 markWrong t at = not (eqb (byte t at) MARK-0) || not (eqb (byte t (at + 1)) MARK-1) || not (eqb (byte t (at + ZERO)) 0)
 
--- the bytes of a row: mark, kind and zero byte, then the numbers
+-- the bytes of a row: mark, kind and zero byte, then the numbers, last the source
 unfoldable pub headOf : ℕ → List ℕ
 headOf kind = MARK-0 ∷ MARK-1 ∷ kind ∷ 0 ∷ []
 
-unfoldable pub bytesOf : Row → List ℕ
-bytesOf x =
+unfoldable pub bytesOf : Row → ℕ → List ℕ
+bytesOf x source =
     headOf (x .kind) ++
-    bytes 2 (x .a) ++ bytes 2 (x .b) ++ bytes 2 (x .c) ++ bytes 8 (x .k) ++ bytes 8 (x .h)
+    bytes 2 (x .a) ++ bytes 2 (x .b) ++ bytes 2 (x .c) ++ bytes 8 (x .k) ++ bytes 8 (x .h) ++ bytes 4 source
 
--- t with x as its row r
-unfoldable pub putRow : List ℕ → ℕ → Row → List ℕ
-putRow t r x = sets t (place r) (bytesOf x)
+-- t with x, recorded at `source`, as its row r
+unfoldable pub putRow : List ℕ → ℕ → Row → ℕ → List ℕ
+putRow t r x source = sets t (place r) (bytesOf x source)
 
 -- the numbers of a row fit their fields
 pub record Small (x : Row) : Type 0 where
@@ -71,11 +57,6 @@ pub record Small (x : Row) : Type 0 where
   pub c : x .c < 65536
   pub k : x .k < 2 ^ 64
   pub h : x .h < 2 ^ 64
-
--- what a read tells of its result: the value, and its bound
-pub record Read (value bound r : ℕ) : Type 0 where
-  pub is : r ≡ value
-  pub below : r < bound
 
 -- what decode tells of x, row r of t
 pub record Decoded (t : List ℕ) (r : ℕ) (x : Row) : Type 0 where

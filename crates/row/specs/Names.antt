@@ -1,4 +1,5 @@
--- The numbers of the row, as the associated constants of `Row` have them: specs cannot name those, and `Row::named` holds the two together.
+-- The numbers of the row, as the associated constants of `Row` have them: specs cannot name those, and `Row::named_places` and
+-- `Row::named_kinds` hold the two together.
 use Prim.Native.Nat.{ℕ, _+_, _*_}
 
 -- bytes of a header, and of a row
@@ -6,7 +7,7 @@ abbrev pub HEADER : ℕ
 HEADER = 6
 
 abbrev pub LENGTH : ℕ
-LENGTH = 26
+LENGTH = 30
 
 -- the two bytes of the mark
 abbrev pub MARK-0 : ℕ
@@ -64,6 +65,9 @@ K = 10
 
 abbrev pub H : ℕ
 H = 18
+
+abbrev pub SOURCE : ℕ
+SOURCE = 26
 
 -- where row r of a table begins
 unfoldable pub place : ℕ → ℕ

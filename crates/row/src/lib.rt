@@ -1,23 +1,21 @@
-// A row of a table: its numbers, and the bytes that they stand in.
+// A row of a table: its numbers, and the bytes that they stand in. Beside them stands the number of the instruction that the row was recorded at, the row's
+// source: it goes with the row and is no part of what the row says, so `Row`, which the rules read and make, does not have it.
 ghost use mathlib.Core.Path.{_≡_};
 ghost use Prim.Native.Nat.{_+_, _<_, _≤_, _^_};
 ghost use lib.ListN.{length};
 ghost use lib.Seq.{sets};
-ghost use mathlib.Core.List.{_++_};
+ghost use mathlib.Core.List.{_++_, _∷_, []};
+ghost use Rattle.bytes.specs.Numbers.{bytes, Read};
 ghost use Rattle.row.specs.Names;
 ghost use Rattle.row.specs.Names.{place, LENGTH};
-ghost use Rattle.row.specs.Bytes.{
-  byte,
-  number,
-  bytes,
-  row,
-  rowAt,
-  markWrong,
-  headOf,
-  putRow,
-  Read,
-  Decoded,
-};
+ghost use Rattle.row.specs.Bytes.{row, rowAt, sourceAt, markWrong, headOf, putRow, Decoded};
+use bytes::byte;
+use bytes::eight;
+use bytes::four;
+use bytes::put_eight;
+use bytes::put_four;
+use bytes::put_two;
+use bytes::two;
 
 pub struct Row {
     pub kind: u8,
@@ -32,7 +30,7 @@ impl Row {
     // bytes of a header, and of a row
     pub const HEADER: usize = 6;
 
-    pub const LENGTH: usize = 26;
+    pub const LENGTH: usize = 30;
 
     // the two bytes of the mark
     pub const MARK_0: u8 = 0x52;
@@ -73,16 +71,43 @@ impl Row {
 
     pub const H: usize = 18;
 
-    // The constants are those of specs/Names.antt.
-    fn named()
-        ensures sizes { λ _. do ⌜ ((← ⟦Row::HEADER⟧ .entry) ≡ Names.HEADER) × ((← ⟦Row::LENGTH⟧ .entry) ≡ Names.LENGTH) × ((← ⟦Row::MARK_0⟧ .entry) ≡ Names.MARK-0) × ((← ⟦Row::MARK_1⟧ .entry) ≡ Names.MARK-1) ⌝ }
-        ensures sums { λ _. do ⌜ ((← ⟦Row::CONST⟧ .entry) ≡ Names.CONST) × ((← ⟦Row::VAR⟧ .entry) ≡ Names.VAR) × ((← ⟦Row::SHIFT⟧ .entry) ≡ Names.SHIFT) × ((← ⟦Row::SUM⟧ .entry) ≡ Names.SUM) ⌝ }
-        ensures differences { λ _. do ⌜ ((← ⟦Row::DIFF⟧ .entry) ≡ Names.DIFF) × ((← ⟦Row::NEG⟧ .entry) ≡ Names.NEG) ⌝ }
-        ensures arrays { λ _. do ⌜ ((← ⟦Row::READ⟧ .entry) ≡ Names.READ) × ((← ⟦Row::FRESH⟧ .entry) ≡ Names.FRESH) × ((← ⟦Row::WRITE⟧ .entry) ≡ Names.WRITE) ⌝ }
-        ensures bytes { λ _. do ⌜ ((← ⟦Row::KIND⟧ .entry) ≡ Names.KIND) × ((← ⟦Row::ZERO⟧ .entry) ≡ Names.ZERO) ⌝ }
-        ensures numbers { λ _. do ⌜ ((← ⟦Row::A⟧ .entry) ≡ Names.A) × ((← ⟦Row::B⟧ .entry) ≡ Names.B) × ((← ⟦Row::C⟧ .entry) ≡ Names.C) ⌝ }
-        ensures values { λ _. do ⌜ ((← ⟦Row::K⟧ .entry) ≡ Names.K) × ((← ⟦Row::H⟧ .entry) ≡ Names.H) ⌝ }
-    {}
+    pub const SOURCE: usize = 26;
+
+    // The constants are those of specs/Names.antt: the lengths and the places here, the marks and the kinds below.
+    fn named_places() -> [usize; 10]
+        ensures { λ r. ⌜ r ≡ Names.HEADER ∷ Names.LENGTH ∷ Names.KIND ∷ Names.ZERO ∷ Names.A ∷ Names.B ∷ Names.C ∷ Names.K ∷ Names.H ∷ Names.SOURCE ∷ [] ⌝ }
+    {
+        [
+            Row::HEADER,
+            Row::LENGTH,
+            Row::KIND,
+            Row::ZERO,
+            Row::A,
+            Row::B,
+            Row::C,
+            Row::K,
+            Row::H,
+            Row::SOURCE,
+        ]
+    }
+
+    fn named_kinds() -> [u8; 11]
+        ensures { λ r. ⌜ r ≡ Names.MARK-0 ∷ Names.MARK-1 ∷ Names.CONST ∷ Names.VAR ∷ Names.SHIFT ∷ Names.SUM ∷ Names.DIFF ∷ Names.NEG ∷ Names.READ ∷ Names.FRESH ∷ Names.WRITE ∷ [] ⌝ }
+    {
+        [
+            Row::MARK_0,
+            Row::MARK_1,
+            Row::CONST,
+            Row::VAR,
+            Row::SHIFT,
+            Row::SUM,
+            Row::DIFF,
+            Row::NEG,
+            Row::READ,
+            Row::FRESH,
+            Row::WRITE,
+        ]
+    }
 
     // The row of these numbers.
     pub fn make(kind: u8, a: usize, b: usize, c: usize, k: u64, h: u64) -> Row
@@ -129,6 +154,14 @@ impl Row {
         t[Row::place(r) + Row::KIND]
     }
 
+    // The instruction that row r of a table was recorded at.
+    pub fn source_at(t: &[u8], r: usize) -> u64
+        requires { ⌜ place r + LENGTH ≤ length (now t) ⌝ }
+        ensures { λ s. ⌜ Read (sourceAt (now (t .entry)) r) (2 ^ 32) s ⌝ }
+    {
+        four(t, Row::place(r) + Row::SOURCE)
+    }
+
     // Whether the mark or the zero byte of row r is wrong.
     pub fn mark_wrong(t: &[u8], r: usize) -> bool
         requires { ⌜ place r + LENGTH ≤ length (now t) ⌝ }
@@ -138,92 +171,45 @@ impl Row {
         (t[at] != Row::MARK_0) | (t[at + 1] != Row::MARK_1) | (t[at + Row::ZERO] != 0)
     }
 
-    // Makes x row r of a table.
-    pub fn put(t: &mut [u8], r: usize, x: Row)
+    // Makes x, recorded at instruction `source`, row r of a table.
+    pub fn put(t: &mut [u8], r: usize, x: Row, source: u64)
         requires { ⌜ place r + LENGTH ≤ length (now t) ⌝ }
-        ensures { λ _. ⌜ now (t .exit) ≡ putRow (now (t .entry)) r x ⌝ }
+        ensures { λ _. ⌜ now (t .exit) ≡ putRow (now (t .entry)) r x source ⌝ }
     {
         let at = Row::place(r);
         put_head(t, at, x.kind);
-        put_references(t, at + Row::A, x.a, x.b, x.c);
-        put_eight(t, at + Row::K, x.k);
-        put_eight(t, at + Row::H, x.h);
+        put_references(t, at, x.a, x.b, x.c);
+        put_values(t, at, x.k, x.h, source);
     }
 }
 
-// The byte at i.
-pub fn byte(t: &[u8], i: usize) -> u64
-    requires { ⌜ i < length (now t) ⌝ }
-    ensures { λ r. ⌜ Read (byte (now (t .entry)) i) 256 r ⌝ }
+// Writes the mark, the kind and the zero byte of a row that begins at `at`.
+fn put_head(t: &mut [u8], at: usize, kind: u8)
+    requires { ⌜ at + LENGTH ≤ length (now t) ⌝ }
+    ensures { λ _. ⌜ now (t .exit) ≡ sets (now (t .entry)) at (headOf kind) ⌝ }
 {
-    t[i] as u64
+    t[at] = Row::MARK_0;
+    t[at + 1] = Row::MARK_1;
+    t[at + Row::KIND] = kind;
+    t[at + Row::ZERO] = 0;
 }
 
-// The number in the two bytes from i on.
-pub fn two(t: &[u8], i: usize) -> usize
-    requires { ⌜ i + 2 ≤ length (now t) ⌝ }
-    ensures { λ r. ⌜ Read (number 2 (now (t .entry)) i) 65536 r ⌝ }
+// Writes the three references of a row that begins at `at`.
+fn put_references(t: &mut [u8], at: usize, a: usize, b: usize, c: usize)
+    requires { ⌜ at + LENGTH ≤ length (now t) ⌝ }
+    ensures { λ _. ⌜ now (t .exit) ≡ sets (now (t .entry)) (at + Names.A) (bytes 2 a ++ bytes 2 b ++ bytes 2 c) ⌝ }
 {
-    (byte(t, i) + 256 * byte(t, i + 1)) as usize
+    put_two(t, at + Row::A, a);
+    put_two(t, at + Row::B, b);
+    put_two(t, at + Row::C, c);
 }
 
-// The number in the eight bytes from i on.
-fn eight(t: &[u8], i: usize) -> u64
-    requires { ⌜ i + 8 ≤ length (now t) ⌝ }
-    ensures { λ r. ⌜ r ≡ number 8 (now (t .entry)) i ⌝ }
+// Writes the two values and the source of a row that begins at `at`.
+fn put_values(t: &mut [u8], at: usize, k: u64, h: u64, source: u64)
+    requires { ⌜ at + LENGTH ≤ length (now t) ⌝ }
+    ensures { λ _. ⌜ now (t .exit) ≡ sets (now (t .entry)) (at + Names.K) (bytes 8 k ++ bytes 8 h ++ bytes 4 source) ⌝ }
 {
-    four(t, i) + 256 * 256 * 256 * 256 * four(t, i + 4)
-}
-
-// The number in the four bytes from i on.
-fn four(t: &[u8], i: usize) -> u64
-    requires { ⌜ i + 4 ≤ length (now t) ⌝ }
-    ensures { λ r. ⌜ Read (number 4 (now (t .entry)) i) (2 ^ 32) r ⌝ }
-{
-    byte(t, i) + 256 * (byte(t, i + 1) + 256 * (byte(t, i + 2) + 256 * byte(t, i + 3)))
-}
-
-// Writes the two bytes of v from i on.
-fn put_two(t: &mut [u8], i: usize, v: usize)
-    requires { ⌜ i + 2 ≤ length (now t) ⌝ }
-    ensures { λ _. ⌜ now (t .exit) ≡ sets (now (t .entry)) i (bytes 2 v) ⌝ }
-{
-    t[i] = (v % 256) as u8;
-    t[i + 1] = (v / 256 % 256) as u8;
-}
-
-// Writes the eight bytes of v from i on.
-fn put_eight(t: &mut [u8], i: usize, v: u64)
-    requires { ⌜ i + 8 ≤ length (now t) ⌝ }
-    ensures { λ _. ⌜ now (t .exit) ≡ sets (now (t .entry)) i (bytes 8 v) ⌝ }
-{
-    t[i] = (v % 256) as u8;
-    t[i + 1] = (v / 256 % 256) as u8;
-    t[i + 2] = (v / 256 / 256 % 256) as u8;
-    t[i + 3] = (v / 256 / 256 / 256 % 256) as u8;
-    t[i + 4] = (v / 256 / 256 / 256 / 256 % 256) as u8;
-    t[i + 5] = (v / 256 / 256 / 256 / 256 / 256 % 256) as u8;
-    t[i + 6] = (v / 256 / 256 / 256 / 256 / 256 / 256 % 256) as u8;
-    t[i + 7] = (v / 256 / 256 / 256 / 256 / 256 / 256 / 256 % 256) as u8;
-}
-
-// Writes the mark, the kind and the zero byte of a row that begins at i.
-fn put_head(t: &mut [u8], i: usize, kind: u8)
-    requires { ⌜ i + 4 ≤ length (now t) ⌝ }
-    ensures { λ _. ⌜ now (t .exit) ≡ sets (now (t .entry)) i (headOf kind) ⌝ }
-{
-    t[i] = Row::MARK_0;
-    t[i + 1] = Row::MARK_1;
-    t[i + Row::KIND] = kind;
-    t[i + Row::ZERO] = 0;
-}
-
-// Writes three references from i on.
-fn put_references(t: &mut [u8], i: usize, a: usize, b: usize, c: usize)
-    requires { ⌜ i + 6 ≤ length (now t) ⌝ }
-    ensures { λ _. ⌜ now (t .exit) ≡ sets (now (t .entry)) i (bytes 2 a ++ bytes 2 b ++ bytes 2 c) ⌝ }
-{
-    put_two(t, i, a);
-    put_two(t, i + 2, b);
-    put_two(t, i + 4, c);
+    put_eight(t, at + Row::K, k);
+    put_eight(t, at + Row::H, h);
+    put_four(t, at + Row::SOURCE, source);
 }

@@ -16,7 +16,8 @@ use Rattle.range.specs.Store.{kept, keep}
 use Rattle.range.proofs.Kept.{keep-length, keep-same, keep-other}
 use Rattle.row.specs.declared.Row.{Row}
 use Rattle.row.specs.Names.{place}
-use Rattle.row.specs.Bytes.{rowAt, putRow, Small, Decoded}
+use Rattle.bytes.specs.Numbers.{Read}
+use Rattle.row.specs.Bytes.{rowAt, sourceAt, putRow, Small, Decoded}
 use Rattle.row.proofs.Rows.{put-read}
 use Rattle.table.specs.Refusals.{MOST}
 use Rattle.term.specs.Term.{Term, const, var, shift, sum, diff, neg, read, fresh, write, termOf, rowOf, isArray}
@@ -33,7 +34,7 @@ use Rattle.walks.specs.Ready.{NamesBelow, SortsIn, Standing, Sorted, Linked}
 use Rattle.walks.proofs.Terms.{term-case}
 use Rattle.walks.proofs.Reach.{rows-closed, sorts-closed}
 use Rattle.rules.specs.Ready.{Asked, Traced, Ranging}
-use Rattle.rules.specs.Written.{entry, source, CanWrite, settled, becomes, Settled, Written}
+use Rattle.rules.specs.Written.{entry, origin, CanWrite, settled, becomes, Settled, Written}
 use Rattle.rules.proofs.RowRanges.{WordsProper, words-proper, entry-proper, entry-store, entry-end}
 
 -- ---- the row that the rules make fits its fields
@@ -102,18 +103,18 @@ module _ (T : List ℕ) (r : ℕ) (x : Row) where
   decoded-term d = ap termOf (d .is)
 
 module _ (T R S : List ℕ) (w limit r : ℕ) (touched : Bool) (given : CanWrite T R S w r touched) where
-  source-kept : touched ≡ false → source T R r touched ≡ look R r
-  unfolding source
-  source-kept e = rw e
+  origin-kept : touched ≡ false → origin T R r touched ≡ look R r
+  unfolding origin
+  origin-kept e = rw e
 
-  source-made : touched ≡ true → source T R r touched ≡ look T r
-  unfolding source
-  source-made e = rw e
+  origin-made : touched ≡ true → origin T R r touched ≡ look T r
+  unfolding origin
+  origin-made e = rw e
 
   pub settle-kept : (x : Row) → touched ≡ false → Decoded R r x → Settled T R R S w limit r touched x
   unfolding settled becomes putIf
   settle-kept x e d =
-      let same : source T R r touched ≡ termOf x = source-kept e ∙ sym (decoded-term R r x d) in
+      let same : origin T R r touched ≡ termOf x = origin-kept e ∙ sym (decoded-term R r x d) in
       record {
         result = rw e;
         row = decoded-term R r x d;
@@ -124,8 +125,8 @@ module _ (T R S : List ℕ) (w limit r : ℕ) (touched : Bool) (given : CanWrite
       }
 
   module _ (y : Row) (test : touched ≡ true) (row : Decoded T r y) where
-    same-made : source T R r touched ≡ termOf y
-    same-made = source-made test ∙ sym (decoded-term T r y row)
+    same-made : origin T R r touched ≡ termOf y
+    same-made = origin-made test ∙ sym (decoded-term T r y row)
 
     fits-made : Fits (2 ^ w) (termOf y)
     fits-made = rw same-made at (given .fits)
@@ -152,12 +153,12 @@ module _ (T R S : List ℕ) (w limit r : ℕ) (touched : Bool) (given : CanWrite
           (made-small R r (given .rows) (2 ^ w) limit (kept S) (pow-pos w) (pow-mono (given .width))
           (termOf y) (row-name-small y (row .small)) fits-made names-made)
 
-      pub settle-made : (R′ : List ℕ) → R′ ≡ putRow R r x → Settled T R R′ S w limit r touched x
+      pub settle-made : (R′ : List ℕ) (source : ℕ) → Read (sourceAt T r) (2 ^ 32) source → R′ ≡ putRow R r x source → Settled T R R′ S w limit r touched x
       unfolding settled becomes putIf look
-      settle-made R′ e =
+      settle-made R′ source carried e =
           record {
-            result = e ∙ rw (test, is, decoded-term T r y row);
-            row = ap termOf (sym (put-read R r x (given .room) small-made)) ∙ rw e;
+            result = e ∙ rw (test, is, decoded-term T r y row, carried .is);
+            row = ap termOf (sym (put-read R r x source (given .room) small-made)) ∙ rw e;
             becomes = rw test (term-made ∙ ap (rule (2 ^ w) limit (look R) (kept S)) (decoded-term T r y row));
             fits = rw term-made (made-fits R r (given .rows) (2 ^ w) limit (kept S) (pow-pos w) (pow-mono (given .width)) (termOf y) fits-made);
             names = rw term-made (made-names R r (given .rows) (2 ^ w) limit (kept S) (pow-pos w) (pow-mono (given .width)) (termOf y) names-made);
@@ -173,13 +174,13 @@ module _ (T R R′ S : List ℕ) (w limit r : ℕ) (touched : Bool) (x : Row)
   settled-length : length R′ ≡ length R
   unfolding settled
   settled-length =
-      ap length (done .result) ∙ length-put-if R r (rowOf (rule (2 ^ w) limit (look R) (kept S) (look T r))) touched
+      ap length (done .result) ∙ length-put-if R r (rowOf (rule (2 ^ w) limit (look R) (kept S) (look T r))) (sourceAt T r) touched
 
   settled-other : (y : ℕ) → y ≢ r → look R′ y ≡ look R y
   unfolding settled look
   settled-other y h =
       ap (λ (l : List ℕ). termOf (rowAt l y)) (done .result)
-      ∙ ap termOf (put-if-other R r (rowOf (rule (2 ^ w) limit (look R) (kept S) (look T r))) touched y h)
+      ∙ ap termOf (put-if-other R r (rowOf (rule (2 ^ w) limit (look R) (kept S) (look T r))) (sourceAt T r) touched y h)
 
   settled-names : (y : ℕ) → y < suc r → NamesBelow y (look R′ y)
   settled-names y l =

@@ -9,6 +9,7 @@ use Rattle.range.specs.Range.{span, point}
 use Rattle.range.specs.Store.{kept, keep}
 use Rattle.row.specs.declared.Row.{Row}
 use Rattle.row.specs.Names.{LENGTH, place}
+use Rattle.row.specs.Bytes.{sourceAt}
 use Rattle.table.specs.Refusals.{MOST}
 use Rattle.term.specs.Term.{Term, const, var, shift, sum, diff, neg, read, fresh, write, termOf, rowOf}
 use Rattle.term.specs.Bytes.{look, putIf}
@@ -32,8 +33,8 @@ entry M g fresh = point MOST
 entry M g (write a b c) = span a b
 
 -- what row r is worked out from: the table's row where it is touched, else the result's as it stands
-unfoldable pub source : List ℕ → List ℕ → ℕ → Bool → Term
-source T R r touched = cond touched (look T r) (look R r)
+unfoldable pub origin : List ℕ → List ℕ → ℕ → Bool → Term
+origin T R r touched = cond touched (look T r) (look R r)
 
 pub record CanWrite (T R S : List ℕ) (w r : ℕ) (touched : Bool) : Type 0 where
   pub width : w ≤ 64
@@ -44,13 +45,13 @@ pub record CanWrite (T R S : List ℕ) (w r : ℕ) (touched : Bool) : Type 0 whe
   pub sorted : Sorted R r
   pub ranges : Ranged (2 ^ w) R S r
   pub links : Linked R S r
-  pub fits : Fits (2 ^ w) (source T R r touched)
-  pub names : NamesBelow r (source T R r touched)
-  pub sorts : SortsIn R (source T R r touched)
+  pub fits : Fits (2 ^ w) (origin T R r touched)
+  pub names : NamesBelow r (origin T R r touched)
+  pub sorts : SortsIn R (origin T R r touched)
 
--- the bytes of the result with row r settled
+-- the bytes of the result with row r settled: a row that is made carries the source of the table's row
 unfoldable pub settled : List ℕ → List ℕ → List ℕ → ℕ → ℕ → ℕ → Bool → List ℕ
-settled T R S w limit r touched = putIf touched r (rowOf (rule (2 ^ w) limit (look R) (kept S) (look T r))) R
+settled T R S w limit r touched = putIf touched r (rowOf (rule (2 ^ w) limit (look R) (kept S) (look T r))) (sourceAt T r) R
 
 -- the row that then stands there
 unfoldable pub becomes : List ℕ → List ℕ → List ℕ → ℕ → ℕ → ℕ → Bool → Term

@@ -36,7 +36,7 @@ pub fn rewrite(result: &[u8], store: &[u64; 2048], w: u32, limit: usize, r: usiz
     }
 }
 
-// Settles result row r: the rewritten row r of the table where that is touched, else the row that stands there. Returns it.
+// Settles result row r: the rewritten row r of the table, with its source, where that is touched, else the row that stands there. Returns it.
 fn settle(
     table: &[u8],
     result: &mut [u8],
@@ -51,7 +51,7 @@ fn settle(
 {
     if touched {
         let x = rewrite(result, store, w, limit, r, Row::decode(table, r));
-        Row::put(result, r, x);
+        Row::put(result, r, x, Row::source_at(table, r));
         return x;
     }
     Row::decode(result, r)

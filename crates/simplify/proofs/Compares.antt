@@ -11,7 +11,7 @@ use Rattle.basis.specs.Reason.{first}
 use Rattle.basis.proofs.Pick.{pick-true}
 use Rattle.range.specs.Store.{kept}
 use Rattle.row.specs.Names.{HEADER, LENGTH, place}
-use Rattle.row.specs.Bytes.{Read}
+use Rattle.bytes.specs.Numbers.{Read}
 use Rattle.row.proofs.Places.{header-below, room-in}
 use Rattle.table.specs.declared.Verdict.{Verdict}
 use Rattle.table.specs.Refusals.{rows, MOST, refuse, checkRows}

@@ -12,7 +12,7 @@ use borrow.Author.Tests.{ne-eqb}
 use Rattle.basis.specs.Reason.{first}
 use Rattle.basis.proofs.Pick.{pick-true}
 use Rattle.row.specs.Names.{HEADER, LENGTH, place}
-use Rattle.row.proofs.Sets.{sets-undone}
+use Rattle.basis.proofs.Sets.{sets-undone}
 use Rattle.row.proofs.Places.{header-below, room-in}
 use Rattle.row.proofs.Rows.{take-stays}
 use Rattle.table.specs.declared.Verdict.{Verdict}

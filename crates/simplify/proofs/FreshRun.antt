@@ -9,7 +9,8 @@ use lib.Seq.{sets, length-sets}
 use lib.Dec.{eqb}
 use borrow.Author.Tests.{ne-eqb}
 use Rattle.row.specs.Names.{HEADER, place}
-use Rattle.row.specs.Bytes.{Read}
+use Rattle.row.specs.Bytes.{sourceAt}
+use Rattle.bytes.specs.Numbers.{Read}
 use Rattle.row.proofs.Places.{header-below}
 use Rattle.table.specs.declared.Verdict.{Verdict}
 use Rattle.table.specs.Refusals.{width, rows, MOST, refuse, accepted}
@@ -104,7 +105,7 @@ module _ (t buffer store : List ℕ) (can : CanFresh t buffer store) where
 -- a fresh result is as long as the slice that it is written into
 pub fresh-length : (t buffer : List ℕ) → length (freshBytes t buffer) ≡ length buffer
 unfolding freshBytes
-fresh-length t buffer = length-put-rows (λ x. true) (freshRows t) (rows t) (sets buffer 0 (take HEADER t)) ∙ length-sets buffer 0 (take HEADER t)
+fresh-length t buffer = length-put-rows (λ x. true) (freshRows t) (sourceAt t) (rows t) (sets buffer 0 (take HEADER t)) ∙ length-sets buffer 0 (take HEADER t)
 
 pub answer-is : (refusal row removed touched : ℕ) → _≡_ {A = Answer} (record { refusal = refusal; row = row; removed = removed; touched = touched }) (answer refusal row removed touched)
 unfolding answer

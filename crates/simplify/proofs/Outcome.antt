@@ -6,6 +6,7 @@ use mathlib.Core.List.{List}
 use borrow.Author.Tests.{lt-ltb}
 use Rattle.basis.proofs.Pick.{pick-alike}
 use Rattle.basis.proofs.Counts.{count-same}
+use Rattle.row.specs.Bytes.{sourceAt}
 use Rattle.term.specs.Term.{Term}
 use Rattle.term.specs.Relation.{rangeOf}
 use Rattle.term.specs.Result.{simplified, renewed, removedRows}
@@ -44,8 +45,8 @@ module _ (T R S marks : List ℕ) (w n : ℕ) (can : CanRenew T R S marks w n) (
       (λ s y h. outcome-is y h) (2 ^ w) false x l
 
   -- their bytes
-  pub bytes-are : putRows (marked marks) (outcome T R (marked marks) w n) n R ≡ putRows touched (renewed (2 ^ w) LIMIT touched (look T) kept) n R
-  bytes-are = put-rows-same (marked marks) touched (outcome T R (marked marks) w n) (renewed (2 ^ w) LIMIT touched (look T) kept) n R marks-are outcome-is
+  pub bytes-are : putRows (marked marks) (outcome T R (marked marks) w n) (sourceAt T) n R ≡ putRows touched (renewed (2 ^ w) LIMIT touched (look T) kept) (sourceAt T) n R
+  bytes-are = put-rows-same (marked marks) touched (outcome T R (marked marks) w n) (renewed (2 ^ w) LIMIT touched (look T) kept) (sourceAt T) n R marks-are outcome-is
 
   -- how many reads are removed
   pub removed-is : removedRows (look T) (outcome T R (marked marks) w n) n ≡ removedRows (look T) (renewed (2 ^ w) LIMIT touched (look T) kept) n

@@ -10,7 +10,7 @@ use borrow.Author.Tests.{eqb-true, not-false}
 use Rattle.basis.proofs.Pick.{or-left, or-right}
 use Rattle.basis.proofs.Counts.{any-none}
 use Rattle.row.specs.Names.{HEADER, place}
-use Rattle.row.specs.Bytes.{byte, Read}
+use Rattle.bytes.specs.Numbers.{byte, Read}
 use Rattle.row.proofs.Places.{header-below}
 use Rattle.table.specs.Refusals.{width, rows, checkTable}
 use Rattle.table.specs.Accepted.{Accepted}

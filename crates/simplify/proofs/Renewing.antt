@@ -18,8 +18,8 @@ use Rattle.basis.proofs.Counts.{count-next}
 use Rattle.range.specs.Store.{kept}
 use Rattle.range.proofs.Kept.{keep-same, keep-other}
 use Rattle.row.specs.Names.{LENGTH, place}
-use Rattle.row.specs.Bytes.{putRow}
-use Rattle.row.proofs.Places.{room-below}
+use Rattle.row.specs.Bytes.{sourceAt, putRow}
+use Rattle.row.proofs.Places.{room-below, place-grows}
 use Rattle.term.specs.Term.{Term, isRead, isArray, termOf, rowOf}
 use Rattle.term.specs.Relation.{rangeOf}
 use Rattle.term.specs.Rule.{rule}
@@ -35,7 +35,7 @@ use Rattle.term.proofs.Placed.{length-put-rows, put-if-other, put-rows-above, p
 use Rattle.walks.specs.Ready.{SortsIn, Standing, Sorted, Linked}
 use Rattle.walks.proofs.Reach.{sorts-closed}
 use Rattle.rules.specs.Ready.{Ranged}
-use Rattle.rules.specs.Written.{entry, source, settled, becomes, CanWrite, Written}
+use Rattle.rules.specs.Written.{entry, origin, settled, becomes, CanWrite, Written}
 use Rattle.rules.proofs.RowRanges.{entry-range}
 use Rattle.marks.specs.Marks.{marked}
 use Rattle.simplify.specs.Answer.{LIMIT}
@@ -44,7 +44,7 @@ use Rattle.simplify.specs.Renew.{standing, outcome, CanRenew, Renewed}
 -- R and S are the result and the store after r rounds, which began with R₀
 pub record Renewing (T R₀ marks : List ℕ) (w n r : ℕ) (R S : List ℕ) (removed : ℕ) : Type 0 where
   pub some : r ≤ n
-  pub result : R ≡ putRows (marked marks) (outcome T R₀ (marked marks) w n) r R₀
+  pub result : R ≡ putRows (marked marks) (outcome T R₀ (marked marks) w n) (sourceAt T) r R₀
   pub rows : (x : ℕ) → x < r → look R x ≡ outcome T R₀ (marked marks) w n x
   pub ranges : (x : ℕ) → x < r → isArray (look T x) ≡ false → kept S x ≡ rangeOf (2 ^ w) (outcome T R₀ (marked marks) w n) x
   pub stand : Standing R r
@@ -54,9 +54,9 @@ pub record Renewing (T R₀ marks : List ℕ) (w n r : ℕ) (R S : List ℕ) (re
   pub counted : removed ≡ removedRows (look T) (outcome T R₀ (marked marks) w n) r
 
 -- rows above those put are looked up as they were
-pub look-above : (touched : ℕ → Bool) (f : ℕ → Term) (n : ℕ) (buffer : List ℕ) (x : ℕ) → n ≤ x → look (putRows touched f n buffer) x ≡ look buffer x
+pub look-above : (touched : ℕ → Bool) (f : ℕ → Term) (source : ℕ → ℕ) (n : ℕ) (buffer : List ℕ) (x : ℕ) → n ≤ x → look (putRows touched f source n buffer) x ≡ look buffer x
 unfolding look
-look-above touched f n buffer x h = ap termOf (put-rows-above touched f n buffer x h)
+look-above touched f source n buffer x h = ap termOf (put-rows-above touched f source n buffer x h)
 
 module _ (T R₀ S₀ marks : List ℕ) (w n : ℕ) (can : CanRenew T R₀ S₀ marks w n) where
   kept-below : KeptBelow (marked marks) (standing R₀ n)
@@ -93,7 +93,7 @@ module _ (T R₀ S₀ marks : List ℕ) (w n : ℕ) (can : CanRenew T R₀ S₀ 
   module _ {r : ℕ} {R S : List ℕ} {removed : ℕ} (at : Renewing T R₀ marks w n r R S removed) (l : r < n) where
     -- the row that stands at r is the one that stood there at the beginning
     stood : look R r ≡ look R₀ r
-    stood = ap (λ (t : List ℕ). look t r) (at .result) ∙ look-above (marked marks) out r R₀ r (le-refl r)
+    stood = ap (λ (t : List ℕ). look t r) (at .result) ∙ look-above (marked marks) out (sourceAt T) r R₀ r (le-refl r)
 
     -- the rows that stand are of the table's sorts
     sort-now : (y : ℕ) → y < r → isArray (look R y) ≡ isArray (look T y)
@@ -116,22 +116,22 @@ module _ (T R₀ S₀ marks : List ℕ) (w n : ℕ) (can : CanRenew T R₀ S₀ 
         (names-both (λ s y. y < r) (λ s y. isArray (look R y) ≡ s) (look T r) (can .names r) table-sorts)
 
     same-length : length R ≡ length R₀
-    same-length = ap length (at .result) ∙ length-put-rows (marked marks) out r R₀
+    same-length = ap length (at .result) ∙ length-put-rows (marked marks) out (sourceAt T) r R₀
 
-    fits : Fits (2 ^ w) (source T R r (marked marks r))
-    unfolding source
+    fits : Fits (2 ^ w) (origin T R r (marked marks r))
+    unfolding origin
     fits =
         pick-case (Fits (2 ^ w)) (marked marks r) (λ (e : marked marks r ≡ true). can .fits r)
         (λ (e : marked marks r ≡ false). subst (Fits (2 ^ w)) (sym stood) (can .kept-fits r l e))
 
-    names : Names (λ array y. y < r) (source T R r (marked marks r))
-    unfolding source
+    names : Names (λ array y. y < r) (origin T R r (marked marks r))
+    unfolding origin
     names =
         pick-case (Names (λ array y. y < r)) (marked marks r) (λ (e : marked marks r ≡ true). can .names r)
         (λ (e : marked marks r ≡ false). subst (Names (λ array y. y < r)) (sym stood) (can .kept-names r l e))
 
-    sorts : SortsIn R (source T R r (marked marks r))
-    unfolding source
+    sorts : SortsIn R (origin T R r (marked marks r))
+    unfolding origin
     sorts =
         pick-case (SortsIn R) (marked marks r) (λ (e : marked marks r ≡ true). table-sorts)
         (λ (e : marked marks r ≡ false). subst (SortsIn R) (sym stood) (sorts-now (look R₀ r) (can .kept-names r l e) (can .kept-sorts r l e)))
@@ -169,22 +169,22 @@ module _ (T R₀ S₀ marks : List ℕ) (w n : ℕ) (can : CanRenew T R₀ S₀ 
           (λ (e : marked marks r ≡ true). rw e (ruled ∙ sym (out-made r e)))
           (λ (e : marked marks r ≡ false). rw e (stood ∙ sym (out-kept r l e)))
 
-      put-one : R′ ≡ putIf (marked marks r) r (rowOf (out r)) R
+      put-one : R′ ≡ putIf (marked marks r) r (rowOf (out r)) (sourceAt T r) R
       unfolding settled putIf
       put-one =
           turn .result ∙
           pick-alike (marked marks r)
-          (λ (e : marked marks r ≡ true). ap (λ (t : Term). putRow R r (rowOf t)) (ruled ∙ sym (out-made r e)))
+          (λ (e : marked marks r ≡ true). ap (λ (t : Term). putRow R r (rowOf t) (sourceAt T r)) (ruled ∙ sym (out-made r e)))
           (λ (e : marked marks r ≡ false). refl)
 
-      put : R′ ≡ putRows (marked marks) out (r + 1) R₀
-      put = put-one ∙ ap (putIf (marked marks r) r (rowOf (out r))) (at .result) ∙ sym (put-rows-next (marked marks) out r R₀)
+      put : R′ ≡ putRows (marked marks) out (sourceAt T) (r + 1) R₀
+      put = put-one ∙ ap (putIf (marked marks r) r (rowOf (out r)) (sourceAt T r)) (at .result) ∙ sym (put-rows-next (marked marks) out (sourceAt T) r R₀)
 
       rows′ : (x : ℕ) → x < suc r → look R′ x ≡ out x
       unfolding look
       rows′ x h =
           dite (decLt x r)
-          (λ (k : x < r). ap (λ (t : List ℕ). look t x) put-one ∙ ap termOf (put-if-other R r (rowOf (out r)) (marked marks r) x (omega arith)) ∙ at .rows x k)
+          (λ (k : x < r). ap (λ (t : List ℕ). look t x) put-one ∙ ap termOf (put-if-other R r (rowOf (out r)) (sourceAt T r) (marked marks r) x (omega arith)) ∙ at .rows x k)
           (λ (k : x < r → ⊥). let e : x ≡ r = omega arith in rw e made)
 
       -- the words that it names have their ranges in the store
@@ -225,15 +225,14 @@ module _ (T R₀ S₀ marks : List ℕ) (w n : ℕ) (can : CanRenew T R₀ S₀ 
           }
 
 pub begun : (T R S marks : List ℕ) (w n : ℕ) → CanRenew T R S marks w n → Renewing T R marks w n 0 R S 0
-unfolding putRows removedRows countWhere place
+unfolding putRows removedRows countWhere
 begun T R S marks w n can =
-    let room : 6 + 26 * n ≤ length R = can .room in
     record {
       some = omega arith;
       result = refl;
       rows = λ x h. absurd (omega arith);
       ranges = λ x h e. absurd (omega arith);
-      stand = record { few = omega arith; room = omega arith; names = λ x h. absurd (omega arith) };
+      stand = record { few = omega arith; room = omega (arith, place-grows {r = 0} {n = n} (omega arith), can .room); names = λ x h. absurd (omega arith) };
       sorted = record { sorts = λ x h. absurd (omega arith) };
       ranged = record { whole = can .store-long; proper = λ x h e. absurd (omega arith) };
       links = record { stores = λ x a b c h. absurd (omega arith); ends = λ x h. absurd (omega arith) };
@@ -247,4 +246,4 @@ finished {T} {R₀} {marks} {w} {n} {r} {R} {S} {removed} at h =
     record { result = done .result; rows = done .rows; ranges = done .ranges; counted = done .counted }
 
 pub same-size : {T R₀ marks : List ℕ} {w n r : ℕ} {R S : List ℕ} {removed : ℕ} → Renewing T R₀ marks w n r R S removed → length R ≡ length R₀
-same-size {T} {R₀} {marks} {w} {n} {r} at = ap length (at .result) ∙ length-put-rows (marked marks) (outcome T R₀ (marked marks) w n) r R₀
+same-size {T} {R₀} {marks} {w} {n} {r} at = ap length (at .result) ∙ length-put-rows (marked marks) (outcome T R₀ (marked marks) w n) (sourceAt T) r R₀

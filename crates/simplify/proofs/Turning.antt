@@ -68,7 +68,7 @@ module _ (T R S marks : List ℕ) (w r : ℕ) (can : CanTurn T R S marks w r) wh
     turn-both =
         record {
           here = can .can .table-room;
-          there = rw (ap length (done .result) ∙ length-put-if R r _ b) (can .can .room);
+          there = rw (ap length (done .result) ∙ length-put-if R r _ _ b) (can .can .room);
         }
 
     pub turn-done : {c : Bool} {one : ℕ} → c ≡ (isRead (look T r) && not (isRead (look R′ r))) → one ≡ cond c 1 0 → Turned T R R′ S S′ marks w r one

@@ -7,6 +7,7 @@ use lib.Seq.{sets}
 use Rattle.basis.specs.Reason.{first}
 use Rattle.basis.specs.Count.{countWhere}
 use Rattle.row.specs.Names.{place}
+use Rattle.row.specs.Bytes.{sourceAt}
 use Rattle.table.specs.declared.Verdict.{Verdict}
 use Rattle.table.specs.Refusals.{rows, given, checkRows}
 use Rattle.term.specs.Term.{Term}
@@ -31,9 +32,9 @@ editVerdict t kept r replacement =
 unfoldable pub editedRows : List ℕ → ℕ → List ℕ → ℕ → Term
 editedRows t r kept = renewed (modulus t) LIMIT (touchedBy (look t) r) (look t) (look (keptPart t kept))
 
--- row r and the rows that lead back to it are worked out anew; all else stays
+-- row r and the rows that lead back to it are worked out anew, each with the source of the edited table's own row; all else stays
 unfoldable pub editedBytes : List ℕ → ℕ → List ℕ → List ℕ
-editedBytes t r kept = putRows (touchedBy (look t) r) (editedRows t r kept) (rows t) kept
+editedBytes t r kept = putRows (touchedBy (look t) r) (editedRows t r kept) (sourceAt t) (rows t) kept
 
 -- how many rows are worked out anew
 unfoldable pub touchedRows : List ℕ → ℕ → ℕ

@@ -7,6 +7,7 @@ use lib.ListN.{length}
 use lib.Dec.{ltb}
 use Rattle.range.specs.Store.{kept}
 use Rattle.row.specs.Names.{place}
+use Rattle.row.specs.Bytes.{sourceAt}
 use Rattle.table.specs.Refusals.{MOST}
 use Rattle.term.specs.Term.{Term, const, isRead, isArray}
 use Rattle.term.specs.Relation.{rangeOf}
@@ -50,7 +51,7 @@ pub record CanRenew (T R S marks : List ℕ) (w n : ℕ) : Type 0 where
 
 -- S′ is the store as the loop leaves it: it has the ranges of the word rows
 pub record Renewed (T R marks : List ℕ) (w n : ℕ) (R′ S′ : List ℕ) (removed : ℕ) : Type 0 where
-  pub result : R′ ≡ putRows (marked marks) (outcome T R (marked marks) w n) n R
+  pub result : R′ ≡ putRows (marked marks) (outcome T R (marked marks) w n) (sourceAt T) n R
   pub rows : (x : ℕ) → x < n → look R′ x ≡ outcome T R (marked marks) w n x
   pub ranges : (x : ℕ) → x < n → isArray (look T x) ≡ false → kept S′ x ≡ rangeOf (2 ^ w) (outcome T R (marked marks) w n) x
   pub counted : removed ≡ removedRows (look T) (outcome T R (marked marks) w n) n

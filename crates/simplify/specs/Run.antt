@@ -6,6 +6,7 @@ use mathlib.Core.List.{List}
 use lib.ListN.{take}
 use lib.Seq.{sets}
 use Rattle.row.specs.Names.{HEADER}
+use Rattle.row.specs.Bytes.{sourceAt}
 use Rattle.table.specs.Refusals.{rows}
 use Rattle.term.specs.Term.{Term}
 use Rattle.term.specs.Result.{result, removedRows}
@@ -19,9 +20,9 @@ use Rattle.simplify.specs.Answer.{modulus, LIMIT, answered}
 unfoldable pub freshRows : List ℕ → ℕ → Term
 freshRows t = result (modulus t) LIMIT (look t)
 
--- the fresh result in the buffer: the header of the table, then its rows; later bytes stay
+-- the fresh result in the buffer: the header of the table, then the rows, each with the source of the table's own; later bytes stay
 unfoldable pub freshBytes : List ℕ → List ℕ → List ℕ
-freshBytes t buffer = putRows (λ x. true) (freshRows t) (rows t) (sets buffer 0 (take HEADER t))
+freshBytes t buffer = putRows (λ x. true) (freshRows t) (sourceAt t) (rows t) (sets buffer 0 (take HEADER t))
 
 unfoldable pub runAnswer : List ℕ → List ℕ → Answer
 runAnswer t buffer = answered (runVerdict t buffer) (removedRows (look t) (freshRows t) (rows t)) (rows t)

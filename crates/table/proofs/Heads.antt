@@ -12,7 +12,7 @@ use Rattle.basis.proofs.Pick.{or-left, or-right, or-false}
 use Rattle.basis.proofs.Reasons.{NoneHolds, first-none}
 use Rattle.row.proofs.Places.{header-below}
 use Rattle.row.specs.Names.{HEADER, place}
-use Rattle.row.specs.Bytes.{Read}
+use Rattle.bytes.specs.Numbers.{Read}
 use Rattle.table.specs.Refusals.{width, rows, MOST, headWrong, headReasons}
 use Rattle.table.specs.Accepted.{GoodHead}
 

@@ -11,7 +11,8 @@ use borrow.Author.Tests.{ne-eqb}
 use Rattle.basis.specs.Reason.{first}
 use Rattle.row.specs.declared.Row.{Row}
 use Rattle.row.specs.Names.{LENGTH, place}
-use Rattle.row.specs.Bytes.{rowAt, Read, Decoded}
+use Rattle.bytes.specs.Numbers.{Read}
+use Rattle.row.specs.Bytes.{rowAt, Decoded}
 use Rattle.table.specs.declared.Uses.{Uses}
 use Rattle.table.specs.declared.Verdict.{Verdict}
 use Rattle.table.specs.Uses.{usesOf}

@@ -6,7 +6,8 @@ use lib.ListN.{length, getD}
 use lib.Dec.{leb, ltb, eqb}
 use Rattle.basis.specs.Reason.{Reason, _when_, first}
 use Rattle.row.specs.Names.{HEADER, LENGTH, VAR, place}
-use Rattle.row.specs.Bytes.{byte, number, rowAt, markWrong}
+use Rattle.bytes.specs.Numbers.{byte, number}
+use Rattle.row.specs.Bytes.{rowAt, markWrong}
 use Rattle.table.specs.declared.Uses.{Uses}
 use Rattle.table.specs.declared.Verdict.{Verdict}
 use Rattle.table.specs.Uses.{UNUSED, sortOf, usesOf}

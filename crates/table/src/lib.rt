@@ -6,7 +6,7 @@ ghost use lib.ListN.{length, take};
 ghost use lib.Dec.{leb, eqb};
 ghost use Rattle.basis.specs.Reason.{first};
 ghost use Rattle.row.specs.Names.{HEADER, place};
-ghost use Rattle.row.specs.Bytes.{Read};
+ghost use Rattle.bytes.specs.Numbers.{Read};
 ghost use Rattle.table.specs.Uses.{uses, sortOf, usesOf, ARRAY};
 ghost use Rattle.table.specs.Refusals.{
   width,
@@ -89,7 +89,7 @@ pub fn width_of(t: &[u8]) -> u32
     requires { ⌜ HEADER ≤ length (now t) ⌝ }
     ensures { λ w. ⌜ Read (width (now (t .entry))) 256 w ⌝ }
 {
-    row::byte(t, 2) as u32
+    bytes::byte(t, 2) as u32
 }
 
 // The row count that a header states.
@@ -97,7 +97,7 @@ pub fn rows_of(t: &[u8]) -> usize
     requires { ⌜ HEADER ≤ length (now t) ⌝ }
     ensures { λ n. ⌜ Read (rows (now (t .entry))) 65536 n ⌝ }
 {
-    row::two(t, 4)
+    bytes::two(t, 4)
 }
 
 // Whether the mark or the zero byte of a header is wrong.

@@ -14,7 +14,8 @@ use borrow.Author.Tests.{eqb-false}
 use Rattle.basis.proofs.Pick.{pick-case}
 use Rattle.row.specs.declared.Row.{Row}
 use Rattle.row.specs.Names.{HEADER, CONST, VAR, SHIFT, SUM, DIFF, NEG, READ, FRESH, WRITE, place}
-use Rattle.row.specs.Bytes.{byte, number, rowAt, markWrong, Small}
+use Rattle.bytes.specs.Numbers.{byte, number}
+use Rattle.row.specs.Bytes.{rowAt, markWrong, Small}
 use Rattle.row.proofs.Places.{header-below}
 use Rattle.table.specs.declared.Uses.{Uses}
 use Rattle.table.specs.Uses.{UNUSED, WORD, ARRAY, sortOf, usesOf}
@@ -186,6 +187,7 @@ module _
     (t buffer : List ℕ)
     (touched : ℕ → Bool)
     (f : ℕ → Term)
+    (source : ℕ → ℕ)
     (head : RightHead t)
     (same : take HEADER buffer ≡ take HEADER t)
     (room : place (rows t) ≤ length buffer)
@@ -193,16 +195,16 @@ module _
     (bare : (x : ℕ) → Unnamed (f x))
   where
     abbrev put : List ℕ
-    put = putRows touched f (rows t) buffer
+    put = putRows touched f source (rows t) buffer
 
     abbrev cut : List ℕ
     cut = take (place (rows t)) put
 
     room-put : place (rows t) ≤ length put
-    room-put = rw (length-put-rows touched f (rows t) buffer) room
+    room-put = rw (length-put-rows touched f source (rows t) buffer) room
 
     cut-header : take HEADER cut ≡ take HEADER t
-    cut-header = take-take HEADER (place (rows t)) put (header-below (rows t)) ∙ put-rows-head touched f (rows t) buffer ∙ same
+    cut-header = take-take HEADER (place (rows t)) put (header-below (rows t)) ∙ put-rows-head touched f source (rows t) buffer ∙ same
 
     -- every row of f fits its fields
     pub rows-small : (x : ℕ) → x < rows t → Small (rowOf (f x))
@@ -213,7 +215,7 @@ module _
     pub put-accepted :
         ((x : ℕ) → x < rows t → touched x ≡ false → rowAt buffer x ≡ rowOf (f x)) →
         ((x : ℕ) → x < rows t → touched x ≡ false → markWrong buffer (place x) ≡ false) →
-        Accepted (take (place (rows t)) (putRows touched f (rows t) buffer))
+        Accepted (take (place (rows t)) (putRows touched f source (rows t) buffer))
     put-accepted stands marks =
         let n : rows cut ≡ rows t = same-rows cut t cut-header in
         formed-accepted cut f (good-head cut t cut-header head)
@@ -221,9 +223,9 @@ module _
         (rw (same-width cut t cut-header) formed) bare
         (λ x l.
         let l′ : x < rows t = rw n at l in
-        cut-row put (rows t) x l′ ∙ put-rows-row touched f (rows t) buffer room (λ y k e. rows-small y k) x l′ ∙
+        cut-row put (rows t) x l′ ∙ put-rows-row touched f source (rows t) buffer room (λ y k e. rows-small y k) x l′ ∙
         pick-case (λ (y : Row). y ≡ rowOf (f x)) (touched x) (λ (e : touched x ≡ true). refl) (λ (e : touched x ≡ false). stands x l′ e))
         (λ x l.
         let l′ : x < rows t = rw n at l in
-        cut-mark put (rows t) x l′ ∙ put-rows-mark touched f (rows t) buffer room x l′ ∙
+        cut-mark put (rows t) x l′ ∙ put-rows-mark touched f source (rows t) buffer room x l′ ∙
         pick-case (λ (b : Bool). b ≡ false) (touched x) (λ (e : touched x ≡ true). refl) (λ (e : touched x ≡ false). marks x l′ e))

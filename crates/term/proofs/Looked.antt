@@ -12,8 +12,9 @@ use lib.ListN.{length, take, List·getD-eq-default}
 use lib.Seq.{getD-take}
 use lib.Pow.{pow-pos}
 use Rattle.row.specs.declared.Row.{Row}
-use Rattle.row.specs.Names.{LENGTH, KIND, place}
-use Rattle.row.specs.Bytes.{byte, row, rowFrom, rowAt, markWrong, Small}
+use Rattle.row.specs.Names.{LENGTH, KIND, SOURCE, place}
+use Rattle.bytes.specs.Numbers.{byte}
+use Rattle.row.specs.Bytes.{row, rowFrom, rowAt, markWrong, Small}
 use Rattle.row.proofs.Rows.{rowFrom-same, markWrong-same, put-mark}
 use Rattle.term.specs.Term.{Term, const, var, shift, sum, diff, neg, read, fresh, write, termOf, rowOf}
 use Rattle.term.specs.WellFormed.{Fits, Names}
@@ -29,7 +30,7 @@ look-past t x h = rw (List·getD-eq-default t 0 {n = place x + KIND} (omega arit
 
 -- ---- the first n rows, cut off
 
-room : (n x j : ℕ) → x < n → j < LENGTH → place x + j < place n
+room : (n x j : ℕ) → x < n → j < SOURCE → place x + j < place n
 unfolding place
 room n x j l h = omega arith
 
@@ -38,7 +39,7 @@ unfolding place
 last-room n size h = omega arith
 
 module _ (t : List ℕ) (n x : ℕ) (l : x < n) where
-  cut-bytes : (j : ℕ) → j < LENGTH → byte (take (place n) t) (place x + j) ≡ byte t (place x + j)
+  cut-bytes : (j : ℕ) → j < SOURCE → byte (take (place n) t) (place x + j) ≡ byte t (place x + j)
   cut-bytes j h = getD-take (place n) t (place x + j) 0 (room n x j l h)
 
   pub cut-row : rowAt (take (place n) t) x ≡ rowAt t x
@@ -58,38 +59,38 @@ pick-term : (b : Bool) (t : Term) (x : Row) → termOf (cond b (rowOf t) x) ≡ 
 pick-term true t x = term-row t
 pick-term false t x = refl
 
-module _ (touched : ℕ → Bool) (f : ℕ → Term) where
+module _ (touched : ℕ → Bool) (f : ℕ → Term) (source : ℕ → ℕ) where
   pub look-put-rows : (n : ℕ) (buffer : List ℕ) → place n ≤ length buffer → ((x : ℕ) → x < n → touched x ≡ true → Small (rowOf (f x))) →
-      (x : ℕ) → x < n → look (putRows touched f n buffer) x ≡ cond (touched x) (f x) (look buffer x)
+      (x : ℕ) → x < n → look (putRows touched f source n buffer) x ≡ cond (touched x) (f x) (look buffer x)
   unfolding look
-  look-put-rows n buffer fits small x l = ap termOf (put-rows-row touched f n buffer fits small x l) ∙ pick-term (touched x) (f x) (rowAt buffer x)
+  look-put-rows n buffer fits small x l = ap termOf (put-rows-row touched f source n buffer fits small x l) ∙ pick-term (touched x) (f x) (rowAt buffer x)
 
-  last-mark : (b : Bool) (buffer : List ℕ) (n : ℕ) (x : Row) → place n + LENGTH ≤ length buffer →
-      markWrong (putIf b n x buffer) (place n) ≡ cond b false (markWrong buffer (place n))
+  last-mark : (b : Bool) (buffer : List ℕ) (n : ℕ) (x : Row) (s : ℕ) → place n + LENGTH ≤ length buffer →
+      markWrong (putIf b n x s buffer) (place n) ≡ cond b false (markWrong buffer (place n))
   unfolding putIf
-  last-mark true buffer n x fits = put-mark buffer n x fits
-  last-mark false buffer n x fits = refl
+  last-mark true buffer n x s fits = put-mark buffer n x s fits
+  last-mark false buffer n x s fits = refl
 
-  mark-above : (n : ℕ) (buffer : List ℕ) (x : ℕ) → n ≤ x → markWrong (putRows touched f n buffer) (place x) ≡ markWrong buffer (place x)
+  mark-above : (n : ℕ) (buffer : List ℕ) (x : ℕ) → n ≤ x → markWrong (putRows touched f source n buffer) (place x) ≡ markWrong buffer (place x)
   unfolding putRows
   mark-above zero buffer x h = refl
   mark-above (suc n) buffer x h =
-      put-if-other-mark (putRows touched f n buffer) n (rowOf (f n)) (touched n) x (omega arith) ∙ mark-above n buffer x (omega arith)
+      put-if-other-mark (putRows touched f source n buffer) n (rowOf (f n)) (source n) (touched n) x (omega arith) ∙ mark-above n buffer x (omega arith)
 
   -- a row that is put has the right mark
   pub put-rows-mark : (n : ℕ) (buffer : List ℕ) → place n ≤ length buffer →
-      (x : ℕ) → x < n → markWrong (putRows touched f n buffer) (place x) ≡ cond (touched x) false (markWrong buffer (place x))
+      (x : ℕ) → x < n → markWrong (putRows touched f source n buffer) (place x) ≡ cond (touched x) false (markWrong buffer (place x))
   unfolding putRows
   put-rows-mark zero buffer fits x l = absurd (omega arith)
   put-rows-mark (suc n) buffer fits x l =
       let fits′ : place n + LENGTH ≤ length buffer = last-room n (length buffer) fits in
       dite (decLt x n)
       (λ (h : x < n).
-      put-if-other-mark (putRows touched f n buffer) n (rowOf (f n)) (touched n) x (omega arith) ∙ put-rows-mark n buffer (omega arith) x h)
+      put-if-other-mark (putRows touched f source n buffer) n (rowOf (f n)) (source n) (touched n) x (omega arith) ∙ put-rows-mark n buffer (omega arith) x h)
       (λ (h : x < n → ⊥).
       let e : x ≡ n = omega arith in
       rw e
-      (last-mark (touched n) (putRows touched f n buffer) n (rowOf (f n)) (rw (length-put-rows touched f n buffer) fits′) ∙
+      (last-mark (touched n) (putRows touched f source n buffer) n (rowOf (f n)) (source n) (rw (length-put-rows touched f source n buffer) fits′) ∙
       ap (cond (touched n) false) (mark-above n buffer n (le-refl n))))
 
 fields-small : (kind a b c k h : ℕ) → kind < 256 → a < 65536 → b < 65536 → c < 65536 → k < 2 ^ 64 → h < 2 ^ 64 → Small (row kind a b c k h)

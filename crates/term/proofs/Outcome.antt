@@ -12,7 +12,7 @@ use lib.Seq.{length-take-le, take-take}
 use lib.Pow.{pow-pos}
 use Rattle.basis.proofs.Pick.{pick-case}
 use Rattle.row.specs.Names.{HEADER, place}
-use Rattle.row.proofs.Places.{header-below}
+use Rattle.row.proofs.Places.{header-below, place-grows}
 use Rattle.table.specs.Refusals.{width, rows}
 use Rattle.table.specs.Accepted.{Accepted}
 use Rattle.term.specs.Term.{Term, const, rowOf, isArray}
@@ -28,12 +28,8 @@ use Rattle.term.proofs.Looked.{look-past, cut-row, cut-mark, cut-look, 
 use Rattle.term.proofs.Accepted.{accepted-formed, accepted-unnamed, accepted-row}
 use Rattle.term.proofs.Acceptable.{accepted-head, same-width, same-rows, rows-small, put-accepted}
 
-place-above : (n x : ℕ) → (x < n → ⊥) → place n ≤ place x
-unfolding place
-place-above n x l = omega arith
-
 table-end : (t : List ℕ) → Accepted t → (x : ℕ) → (x < rows t → ⊥) → length t ≤ place x
-table-end t ok x l = let size : length t ≡ place (rows t) = ok .head .size in rw size (place-above (rows t) x l)
+table-end t ok x l = let size : length t ≡ place (rows t) = ok .head .size in rw size (place-grows (omega arith))
 
 -- rows past the end are CONST 0, before and after
 past : (M limit : ℕ) (touched : ℕ → Bool) (t kept : ℕ → Term) → NamesBelow t → NamesBelow kept →
@@ -47,9 +43,9 @@ past M limit touched t kept low low-kept x e e′ =
 
 -- where the cut of a table's rows ends
 cut-end : (s : List ℕ) (n x : ℕ) → place n ≤ length s → (x < n → ⊥) → length (take (place n) s) ≤ place x
-cut-end s n x r l = rw (length-take-le (place n) s r) (place-above n x l)
+cut-end s n x r l = rw (length-take-le (place n) s r) (place-grows (omega arith))
 
--- a table t, and a kept result of which the first 6 + 26n bytes are a table with the header and the sorts of t
+-- a table t, and a kept result that begins with a table of as many rows, with the header and the sorts of t
 module _
     (limit : ℕ)
     (touched : ℕ → Bool)
@@ -93,10 +89,10 @@ module _
         renewed-kept (2 ^ width t) limit touched (look t) (look part) (formed-below (2 ^ width t) (look t) (accepted-formed t ok))
         (λ y e. formed-below (2 ^ width t) (look part) part-formed y)
 
-    pub edit-accepted :
-        Accepted (take (place (rows t)) (putRows touched (renewed (2 ^ width t) limit touched (look t) (look (take (place (rows t)) kept))) (rows t) kept))
-    edit-accepted =
-        put-accepted t kept touched out (accepted-head t ok) same room edit-formed bare
+    pub edit-accepted : (source : ℕ → ℕ) →
+        Accepted (take (place (rows t)) (putRows touched (renewed (2 ^ width t) limit touched (look t) (look (take (place (rows t)) kept))) source (rows t) kept))
+    edit-accepted source =
+        put-accepted t kept touched out source (accepted-head t ok) same room edit-formed bare
         (λ x l e. sym (cut-row kept (rows t) x l) ∙ sym (accepted-row part ok-kept x (part-count l)) ∙ ap rowOf (sym (kept-row x e)))
         (λ x l e. sym (cut-mark kept (rows t) x l) ∙ ok-kept .row x (part-count l) .marked)
 
@@ -117,26 +113,26 @@ module _
     run-bare : (x : ℕ) → Unnamed (fresh-out x)
     run-bare = result-unnamed (2 ^ width t) limit (pow-pos (width t)) (look t) (accepted-formed t ok) (accepted-unnamed t ok)
 
-    pub run-accepted : Accepted (take (place (rows t)) (putRows (λ x. true) (result (2 ^ width t) limit (look t)) (rows t) buffer))
-    run-accepted =
-        put-accepted t buffer (λ x. true) fresh-out (accepted-head t ok) same room run-formed run-bare
+    pub run-accepted : (source : ℕ → ℕ) → Accepted (take (place (rows t)) (putRows (λ x. true) (result (2 ^ width t) limit (look t)) source (rows t) buffer))
+    run-accepted source =
+        put-accepted t buffer (λ x. true) fresh-out source (accepted-head t ok) same room run-formed run-bare
         (λ x l e. absurd (true≢false e)) (λ x l e. absurd (true≢false e))
 
-    pub run-look : (x : ℕ) →
-        look (take (place (rows t)) (putRows (λ y. true) (result (2 ^ width t) limit (look t)) (rows t) buffer)) x ≡ result (2 ^ width t) limit (look t) x
-    run-look x =
+    pub run-look : (source : ℕ → ℕ) (x : ℕ) →
+        look (take (place (rows t)) (putRows (λ y. true) (result (2 ^ width t) limit (look t)) source (rows t) buffer)) x ≡ result (2 ^ width t) limit (look t) x
+    run-look source x =
         dite (decLt x (rows t))
         (λ (l : x < rows t).
         cut-look put (rows t) x l ∙
-        look-put-rows (λ y. true) fresh-out (rows t) buffer room
-        (λ y k e. rows-small t buffer (λ z. true) fresh-out (accepted-head t ok) same room run-formed run-bare y k) x l)
+        look-put-rows (λ y. true) fresh-out source (rows t) buffer room
+        (λ y k e. rows-small t buffer (λ z. true) fresh-out source (accepted-head t ok) same room run-formed run-bare y k) x l)
         (λ (l : x < rows t → ⊥).
-        look-past (take (place (rows t)) put) x (cut-end put (rows t) x (rw (length-put-rows (λ y. true) fresh-out (rows t) buffer) room) l) ∙
+        look-past (take (place (rows t)) put) x (cut-end put (rows t) x (rw (length-put-rows (λ y. true) fresh-out source (rows t) buffer) room) l) ∙
         sym (past (2 ^ width t) limit (λ y. true) (look t) (look t) low low x (look-past t x (table-end t ok x l)) (look-past t x (table-end t ok x l))) ∙
         renewed-all (2 ^ width t) limit (look t) low (look t) x)
       where
         put : List ℕ
-        put = putRows (λ y. true) fresh-out (rows t) buffer
+        put = putRows (λ y. true) fresh-out source (rows t) buffer
 
         low : NamesBelow (look t)
         low = formed-below (2 ^ width t) (look t) (accepted-formed t ok)

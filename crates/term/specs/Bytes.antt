@@ -10,11 +10,11 @@ use Rattle.term.specs.Term.{Term, termOf, rowOf}
 unfoldable pub look : List ℕ → ℕ → Term
 look t x = termOf (rowAt t x)
 
--- the buffer with x as its row r, where it is touched
-unfoldable pub putIf : Bool → ℕ → Row → List ℕ → List ℕ
-putIf touched r x buffer = cond touched (putRow buffer r x) buffer
+-- the buffer with x, recorded at `source`, as its row r, where it is touched
+unfoldable pub putIf : Bool → ℕ → Row → ℕ → List ℕ → List ℕ
+putIf touched r x source buffer = cond touched (putRow buffer r x source) buffer
 
--- the buffer with each touched one of the first n rows of f in its place; all else stays
-unfoldable pub putRows : (ℕ → Bool) → (ℕ → Term) → ℕ → List ℕ → List ℕ
-putRows touched f zero buffer = buffer
-putRows touched f (suc n) buffer = putIf (touched n) n (rowOf (f n)) (putRows touched f n buffer)
+-- the buffer with each touched one of the first n rows of f in its place, with its source; all else stays
+unfoldable pub putRows : (ℕ → Bool) → (ℕ → Term) → (ℕ → ℕ) → ℕ → List ℕ → List ℕ
+putRows touched f source zero buffer = buffer
+putRows touched f source (suc n) buffer = putIf (touched n) n (rowOf (f n)) (source n) (putRows touched f source n buffer)

@@ -64,6 +64,16 @@ digits-few (suc d) v =
     (λ h. omega arith)
     (λ h. rw length-append (omega (arith, digits-few d (v / 10))))
 
+-- a number below a power of ten has no more digits than that power has zeros
+digits-within : (d n v : ℕ) → v < 10 ^ suc n → length (digits d v) ≤ suc n
+unfolding digits
+digits-within zero n v h = omega arith
+digits-within (suc d) zero v h = rw (digits-one (suc d) v h) (omega arith)
+digits-within (suc d) (suc n) v h =
+    digits-case (λ (t : List ℕ). length t ≤ suc (suc n)) d v
+    (λ l. omega arith)
+    (λ l. rw length-append (omega (arith, digits-within d n (v / 10) (front-below n v h))))
+
 pub decimal-some : (v : ℕ) → 1 ≤ length (decimal v)
 unfolding decimal
 decimal-some v = digits-some 19 v
@@ -71,6 +81,10 @@ decimal-some v = digits-some 19 v
 pub decimal-few : (v : ℕ) → length (decimal v) ≤ 20
 unfolding decimal
 decimal-few v = digits-few 19 v
+
+pub decimal-within : (n v : ℕ) → v < 10 ^ suc n → length (decimal v) ≤ suc n
+unfolding decimal
+decimal-within n v h = digits-within 19 n v h
 
 -- ---- each is a digit
 

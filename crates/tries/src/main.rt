@@ -1,8 +1,15 @@
 // Runs document 01's cases over real bytes. A line is a case, the number that the check gives, and its row.
 use row::Row;
 
-// The bytes of a table of 1,025 rows, one more than the most.
-const ROOM: usize = 26656;
+// The bytes of a table of one row more than the most.
+const ROOM: usize = table::LARGEST + Row::LENGTH;
+
+// The bytes of a table with one row, with the most rows, and with one row over.
+const ONE_ROW: u64 = (Row::HEADER + Row::LENGTH) as u64;
+
+const FULL: u64 = table::LARGEST as u64;
+
+const OVERFULL: u64 = ROOM as u64;
 
 // Headers: two marks, width, zero byte, row count; then how many bytes are handed in. Every row is CONST 0.
 const HEADS: [[u64; 6]; 27] = [
@@ -22,18 +29,21 @@ const HEADS: [[u64; 6]; 27] = [
     [0x46, 0x54, 65, 0, 0, 6],
     [0x46, 0x54, 255, 0, 0, 6],
     [0x46, 0x54, 65, 0, 1025, 6], // 3 before 4
-    [0x46, 0x54, 8, 0, 1025, 26656], // row counts
-    [0x46, 0x54, 8, 0, 1024, 26630],
-    [0x46, 0x54, 8, 0, 65535, 26656],
+    [0x46, 0x54, 8, 0, 1025, OVERFULL], // row counts
+    [0x46, 0x54, 8, 0, 1024, FULL],
+    [0x46, 0x54, 8, 0, 65535, OVERFULL],
     [0x46, 0x54, 8, 0, 65535, 6], // 4 before 5
-    [0x46, 0x54, 8, 0, 1, 32], // lengths
-    [0x46, 0x54, 8, 0, 1, 31],
-    [0x46, 0x54, 8, 0, 1, 33],
+    [0x46, 0x54, 8, 0, 1, ONE_ROW], // lengths
+    [0x46, 0x54, 8, 0, 1, ONE_ROW - 1],
+    [0x46, 0x54, 8, 0, 1, ONE_ROW + 1],
     [0x46, 0x54, 8, 0, 1, 6],
     [0x46, 0x54, 8, 0, 0, 7],
-    [0x46, 0x54, 8, 0, 1024, 26629],
-    [0x46, 0x54, 8, 0, 1024, 26631],
+    [0x46, 0x54, 8, 0, 1024, FULL - 1],
+    [0x46, 0x54, 8, 0, 1024, FULL + 1],
 ];
+
+// Where row 2 begins.
+const ROW_2: usize = Row::HEADER + Row::LENGTH * 2;
 
 // Row 2 of a table whose row 0 is a word and row 1 an array: width; two marks, kind, zero byte, a, b, c, k, h.
 const ROWS: [[u64; 10]; 47] = [
@@ -108,19 +118,19 @@ fn head(t: &mut [u8; ROOM], w: u64, n: u64) {
     set(t, 5, n / 256);
 }
 
-// Row r, where there is room for it.
-fn put(t: &mut [u8; ROOM], r: usize, x: Row) {
+// Row r, recorded at instruction `source`, where there is room for it.
+fn put(t: &mut [u8; ROOM], r: usize, x: Row, source: u64) {
     if r > 1024 {
         return;
     }
-    Row::put(t, r, x);
+    Row::put(t, r, x, source);
 }
 
-// Makes every row a CONST 0.
+// Makes every row a CONST 0, recorded at the instruction of its own number.
 fn fill(t: &mut [u8; ROOM]) {
     let mut r = 0;
     while r <= 1024 {
-        put(t, r, Row::make(Row::CONST, 0, 0, 0, 0, 0));
+        put(t, r, Row::make(Row::CONST, 0, 0, 0, 0, 0), r as u64);
         r += 1;
     }
 }
@@ -169,8 +179,9 @@ fn head_cases(t: &mut [u8; ROOM]) {
     }
 }
 
-fn row_case(t: &mut [u8; ROOM], c: [u64; 10]) {
+fn row_case(t: &mut [u8; ROOM], c: [u64; 10], source: u64) {
     show(&c);
+    show(&[source]);
     head(t, c[0], 3);
     let x = Row::make(
         low(c[3]),
@@ -180,21 +191,22 @@ fn row_case(t: &mut [u8; ROOM], c: [u64; 10]) {
         c[8],
         c[9],
     );
-    put(t, 2, x);
-    set(t, 58, c[1]);
-    set(t, 59, c[2]);
-    set(t, 61, c[4]);
-    say(t, 84);
+    put(t, 2, x, source);
+    set(t, ROW_2, c[1]);
+    set(t, ROW_2 + 1, c[2]);
+    set(t, ROW_2 + Row::ZERO, c[4]);
+    say(t, ROW_2 + Row::LENGTH);
 }
 
-fn row_cases(t: &mut [u8; ROOM]) {
-    put(t, 0, Row::make(Row::CONST, 0, 0, 0, 1, 0));
-    put(t, 1, Row::make(Row::FRESH, 0, 0, 0, 0, 0));
+// Every row case, recorded at instruction `source`, which is printed behind the case: it never changes what the check gives.
+fn row_cases(t: &mut [u8; ROOM], source: u64) {
+    put(t, 0, Row::make(Row::CONST, 0, 0, 0, 1, 0), source);
+    put(t, 1, Row::make(Row::FRESH, 0, 0, 0, 0, 0), source);
     let cases = ROWS;
     let mut i = 0;
     while i < 47 {
         let c = cases[i];
-        row_case(t, c);
+        row_case(t, c, source);
         i += 1;
     }
 }
@@ -203,7 +215,11 @@ fn row_cases(t: &mut [u8; ROOM]) {
 fn every_width(t: &mut [u8; ROOM]) {
     let mut w: u64 = 1;
     while w <= 64 {
-        row_case(t, [w, 0x52, 0x4F, 1, 0, 0, 0, 0, 0xffff_ffff_ffff_ffff, 0]);
+        row_case(
+            t,
+            [w, 0x52, 0x4F, 1, 0, 0, 0, 0, 0xffff_ffff_ffff_ffff, 0],
+            0,
+        );
         w += 1;
     }
 }
@@ -212,48 +228,60 @@ fn every_width(t: &mut [u8; ROOM]) {
 fn faulty_rows(t: &mut [u8; ROOM]) {
     fill(t);
     head(t, 8, 1024);
-    put(t, 1023, Row::make(Row::SHIFT, 1022, 0, 0, 255, 0));
+    put(
+        t,
+        1023,
+        Row::make(Row::SHIFT, 1022, 0, 0, 255, 0),
+        0xffff_ffff,
+    );
     io::write_all(1, b"last row names the one below");
-    say(t, 26630);
-    put(t, 1023, Row::make(Row::SHIFT, 1023, 0, 0, 255, 0));
+    say(t, table::LARGEST);
+    put(
+        t,
+        1023,
+        Row::make(Row::SHIFT, 1023, 0, 0, 255, 0),
+        0xffff_ffff,
+    );
     io::write_all(1, b"last row names itself");
-    say(t, 26630);
-    put(t, 500, Row::make(Row::VAR, 0, 0, 0, 9, 8));
+    say(t, table::LARGEST);
+    put(t, 500, Row::make(Row::VAR, 0, 0, 0, 9, 8), 500);
     io::write_all(1, b"row 500 crosses its bounds too");
-    say(t, 26630);
-    put(t, 0, Row::make(Row::SHIFT, 0, 0, 0, 0, 0));
+    say(t, table::LARGEST);
+    put(t, 0, Row::make(Row::SHIFT, 0, 0, 0, 0, 0), 0);
     io::write_all(1, b"row 0 names itself too");
-    say(t, 26630);
+    say(t, table::LARGEST);
 }
 
 fn p1(t: &mut [u8; ROOM]) {
     head(t, 8, 9);
-    put(t, 0, Row::make(Row::VAR, 0, 0, 0, 200, 250));
-    put(t, 1, Row::make(Row::FRESH, 0, 0, 0, 0, 0));
-    put(t, 2, Row::make(Row::SHIFT, 0, 0, 0, 248, 0));
-    put(t, 3, Row::make(Row::CONST, 0, 0, 0, 7, 0));
-    put(t, 4, Row::make(Row::WRITE, 1, 2, 3, 0, 0));
-    put(t, 5, Row::make(Row::SHIFT, 0, 0, 0, 224, 0));
-    put(t, 6, Row::make(Row::SHIFT, 5, 0, 0, 24, 0));
-    put(t, 7, Row::make(Row::READ, 4, 6, 0, 0, 0));
-    put(t, 8, Row::make(Row::READ, 4, 7, 0, 0, 0));
+    put(t, 0, Row::make(Row::VAR, 0, 0, 0, 200, 250), 0);
+    put(t, 1, Row::make(Row::FRESH, 0, 0, 0, 0, 0), 0);
+    put(t, 2, Row::make(Row::SHIFT, 0, 0, 0, 248, 0), 6);
+    put(t, 3, Row::make(Row::CONST, 0, 0, 0, 7, 0), 6);
+    put(t, 4, Row::make(Row::WRITE, 1, 2, 3, 0, 0), 6);
+    put(t, 5, Row::make(Row::SHIFT, 0, 0, 0, 224, 0), 9);
+    put(t, 6, Row::make(Row::SHIFT, 5, 0, 0, 24, 0), 9);
+    put(t, 7, Row::make(Row::READ, 4, 6, 0, 0, 0), 9);
+    put(t, 8, Row::make(Row::READ, 4, 7, 0, 0, 0), 12);
 }
 
 // P1, and the table of P3: P1 with CONST 0 for its row 1.
 fn p1_and_p3(t: &mut [u8; ROOM]) {
     p1(t);
     io::write_all(1, b"P1");
-    say(t, 240);
-    put(t, 1, Row::make(Row::CONST, 0, 0, 0, 0, 0));
+    say(t, Row::place(9));
+    put(t, 1, Row::make(Row::CONST, 0, 0, 0, 0, 0), 0);
     io::write_all(1, b"P3");
-    say(t, 240);
+    say(t, Row::place(9));
 }
 
 fn main() {
     let mut t = [0u8; ROOM];
     fill(&mut t);
     head_cases(&mut t);
-    row_cases(&mut t);
+    row_cases(&mut t, 0);
+    row_cases(&mut t, 1);
+    row_cases(&mut t, 0xffff_ffff);
     every_width(&mut t);
     faulty_rows(&mut t);
     p1_and_p3(&mut t);

@@ -1,7 +1,5 @@
 // Tells why a read moved: takes the number of a READ row as its argument and one table from standard input, and prints
 // the list of that read's walk (docs/WHY.md), or why it is refused.
-mod argument;
-
 use argument::DIGITS;
 use argument::Parsed;
 use argument::number;

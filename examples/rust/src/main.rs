@@ -3,10 +3,14 @@
 
 use stezkoun::Refusal;
 
+const HEADER: usize = 6;
+const ROW: usize = 30;
+const SOURCE: usize = 26;
+const CONST: u8 = 1;
 const VAR: u8 = 2;
 
-fn row(kind: u8, references: [u16; 3], values: [u64; 2]) -> [u8; 26] {
-    let mut bytes = [0; 26];
+fn row(kind: u8, references: [u16; 3], values: [u64; 2], instruction: u32) -> [u8; ROW] {
+    let mut bytes = [0; ROW];
     bytes[..3].copy_from_slice(&[0x52, 0x4f, kind]);
     for (i, reference) in references.iter().enumerate() {
         bytes[4 + 2 * i..][..2].copy_from_slice(&reference.to_le_bytes());
@@ -14,15 +18,17 @@ fn row(kind: u8, references: [u16; 3], values: [u64; 2]) -> [u8; 26] {
     for (i, value) in values.iter().enumerate() {
         bytes[10 + 8 * i..][..8].copy_from_slice(&value.to_le_bytes());
     }
+    bytes[SOURCE..].copy_from_slice(&instruction.to_le_bytes());
     bytes
 }
 
 fn print_rows(table: &[u8]) {
-    for (number, row) in table[6..].chunks(26).enumerate() {
+    for (number, row) in table[HEADER..].chunks(ROW).enumerate() {
         let short = |at: usize| u16::from_le_bytes(row[at..at + 2].try_into().unwrap());
         let long = |at: usize| u64::from_le_bytes(row[at..at + 8].try_into().unwrap());
-        let (kind, k, h) = (row[2], long(10), long(18));
-        println!("{number} {kind} {} {} {} {k} {h}", short(4), short(6), short(8));
+        let (kind, [a, b, c], [k, h]) = (row[2], [4, 6, 8].map(short), [10, 18].map(long));
+        let instruction = u32::from_le_bytes(row[SOURCE..].try_into().unwrap());
+        println!("{number} {kind} {a} {b} {c} {k} {h} {instruction}");
     }
 }
 
@@ -42,14 +48,15 @@ fn main() -> Result<(), Refusal> {
     println!("why: removed {} touched {}", done.removed, done.touched);
     print!("{}", String::from_utf8_lossy(list));
 
-    // With the pointer anywhere from 0 the last read may no longer pass the store.
-    let wide = row(VAR, [0; 3], [0, 250]);
+    // With the pointer anywhere from 0, as instruction 3 has it, the last read may no longer pass
+    // the store.
+    let wide = row(VAR, [0; 3], [0, 250], 3);
     let done = stezkoun::edit(&mut table, &mut result, 0, &wide)?;
     println!("edit: removed {} touched {}", done.removed, done.touched);
     print_rows(&result);
 
     // A word in the place of the memory: row 4 would write into it.
-    let word = row(1, [0; 3], [0; 2]);
+    let word = row(CONST, [0; 3], [0; 2], 3);
     match stezkoun::edit(&mut table, &mut result, 1, &word) {
         Err(refusal) => println!("refused: {refusal:?}"),
         Ok(_) => unreachable!("a WRITE on a word is refused"),

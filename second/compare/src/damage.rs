@@ -1,11 +1,12 @@
 //! Faults of every kind, put into a table.
 
-use second::bytes::{place, HEADER, ROW};
+use second::bytes::{place, HEADER, KIND, REFERENCES, ROW, SOURCE, VALUES, ZERO};
 use second::Width;
 use tables::random::Random;
 
-/// The field places of a row: a, b, c, k, h and their sizes.
-const FIELDS: [(usize, usize); 5] = [(4, 2), (6, 2), (8, 2), (10, 8), (18, 8)];
+/// Where the references and values of a row begin, and their sizes.
+const FIELDS: [(usize, usize); 5] =
+    [(REFERENCES[0], 2), (REFERENCES[1], 2), (REFERENCES[2], 2), (VALUES[0], 8), (VALUES[1], 8)];
 
 pub fn damaged(random: &mut Random, width: Width, table: &[u8]) -> Vec<u8> {
     if random.one_in(40) {
@@ -65,27 +66,29 @@ fn header(random: &mut Random, bytes: &mut [u8]) {
 
 fn length(random: &mut Random, bytes: &mut Vec<u8>) {
     let length = bytes.len();
-    let wrong = match random.below(6) {
+    let wrong = match random.below(7) {
         0 => random.below(HEADER),
         1 => length - 1,
         2 => length + 1,
         3 => length + ROW,
         4 => length.saturating_sub(ROW),
+        // As if the rows had no instruction numbers.
+        5 => HEADER + length.saturating_sub(HEADER) / ROW * SOURCE,
         _ => random.below(length + 40),
     };
     bytes.resize(wrong, 0);
 }
 
-/// Damages one row, given its number and its 26 bytes.
+/// Damages one row, given its number and its bytes. To damage its instruction number is no fault.
 pub fn row(random: &mut Random, width: Width, number: usize, bytes: &mut [u8]) {
     let mut put = |at: usize, size: usize, value: u64| {
         bytes[at..at + size].copy_from_slice(&value.to_le_bytes()[..size]);
     };
-    match random.below(8) {
+    match random.below(9) {
         0 => put(random.below(2), 1, random.draw()),
-        1 => put(3, 1, random.from_to(1, 255)),
-        2 => put(2, 1, random.pick(&[0, 10, 11, 255])),
-        3 => put(2, 1, random.from_to(1, 9)),
+        1 => put(ZERO, 1, random.from_to(1, 255)),
+        2 => put(KIND, 1, random.pick(&[0, 10, 11, 255])),
+        3 => put(KIND, 1, random.from_to(1, 9)),
         4 => {
             let (at, size) = random.pick(&FIELDS);
             let any = random.draw();
@@ -94,24 +97,24 @@ pub fn row(random: &mut Random, width: Width, number: usize, bytes: &mut [u8]) {
         5 => {
             let above = if width.bits() == 64 { 0 } else { 1 << width.bits() };
             let value = random.pick(&[above, width.largest(), u64::MAX, above << 1]);
-            put(random.pick(&[10, 18]), 8, value);
+            put(random.pick(&VALUES), 8, value);
         }
         6 => {
             let own = number as u64;
             let wrong = random.pick(&[own, own + 1, own.wrapping_sub(1), 65535]);
-            put(random.pick(&[4, 6, 8]), 2, wrong);
+            put(random.pick(&REFERENCES), 2, wrong);
         }
+        7 => put(SOURCE, 4, random.source().into()),
         _ => {
             // Any earlier row: often one of the other sort.
-            for at in [4, 6, 8] {
+            for at in REFERENCES {
                 if random.one_in(2) {
                     put(at, 2, random.below(number + 1) as u64);
                 }
             }
-            if bytes[2] == 2 && random.one_in(2) {
-                let (low, high) = (bytes[10..18].to_vec(), bytes[18..26].to_vec());
-                bytes[10..18].copy_from_slice(&high);
-                bytes[18..26].copy_from_slice(&low);
+            if bytes[KIND] == 2 && random.one_in(2) {
+                let [low, high] = VALUES;
+                (0..8).for_each(|i| bytes.swap(low + i, high + i));
             }
         }
     }

@@ -3,6 +3,7 @@
 use crate::pair::Pair;
 use crate::paper::p1;
 use second::bytes::place;
+use second::text::listed;
 
 /// Other values for a byte: each bit flipped, and the ends.
 fn others(byte: u8) -> impl Iterator<Item = u8> {
@@ -25,11 +26,13 @@ pub fn cases(pair: &mut Pair) {
     let table = p1();
     let mut kept = vec![0; table.len()];
     pair.run(&table, &mut kept);
+    // Not enough where an instruction number grows by many digits.
+    let room = listed(&table, 8).len() + 3;
 
     for mut wrong in spoiled(&table) {
         pair.run(&wrong, &mut kept.clone());
         pair.compare(&wrong, &mut kept.clone(), 2, 6);
-        pair.why(&wrong, &mut kept.clone(), 8, &mut [0x5a; 130]);
+        pair.why(&wrong, &mut kept.clone(), 8, &mut vec![0x5a; room]);
         pair.edit(&mut wrong, &mut kept.clone(), 5, &table[place(2)]);
     }
     for mut wrong in spoiled(&kept) {

@@ -4,10 +4,11 @@ use crate::damage::{damaged, result_slice, row_number};
 use crate::meaning::{decoded, World};
 use crate::pair::{hex, Pair};
 use crate::replacement::replacement;
-use crate::walks;
+use crate::{sources, walks};
 use second::bytes::{place, table_bytes};
 use second::{Ref, Relation, Row, Sort, Width};
 use tables::random::Random;
+use tables::sources::numbered;
 use tables::wellformed::{rows_of_sorts, Earlier, Taste};
 use tables::{chain, machine, wellformed};
 
@@ -19,10 +20,9 @@ pub fn cases(pair: &mut Pair, number: u64) {
     let random = &mut Random::stream(pair.seed, number);
     let width = random.width();
     let rows = some_rows(random, width, number);
-    let table = table_bytes(width, &rows);
+    let table = numbered(random, width, &rows);
 
-    let mut slice = result_slice(random, &table);
-    pair.run(&table, &mut slice);
+    sources::runs(pair, random, &table);
     let mut result = vec![0; table.len()];
     second::run(&table, &mut result);
 
@@ -37,6 +37,7 @@ pub fn cases(pair: &mut Pair, number: u64) {
     for _ in 0..2 {
         damaged_calls(pair, random, width, &table, &result);
     }
+    sources::cases(pair, random, &table, &result);
     walks::cases(pair, random, &table);
 }
 
@@ -146,7 +147,7 @@ fn as_a_fresh_run(pair: &mut Pair, table: &[u8], before: &[u8], kept: &[u8], edi
 }
 
 /// Searched from each row on its own, unlike the way either program goes about it.
-fn leads_back(rows: &[Row], from: Ref, to: Ref) -> bool {
+pub fn leads_back(rows: &[Row], from: Ref, to: Ref) -> bool {
     let mut seen = vec![false; rows.len()];
     let mut left = vec![from];
     while let Some(row) = left.pop() {
@@ -167,19 +168,28 @@ fn foreign_edit(pair: &mut Pair, random: &mut Random, table: &[u8], result: &[u8
     let sorts: Vec<Sort> = rows.iter().map(|row| row.sort()).collect();
     let others = rows_of_sorts(random, width, &sorts);
     let mut kept = match random.below(13) {
-        0..=3 => table_bytes(width, &others),
+        0..=3 => numbered(random, width, &others),
         4 | 5 => table.to_vec(),
         6 => {
-            let other = table_bytes(width, &others);
+            let other = numbered(random, width, &others);
             let mut kept = vec![0; other.len()];
             second::run(&other, &mut kept);
             kept
         }
         7..=9 => with_other_rows(random, width, result),
-        10 => table_bytes(width, &wellformed::rows(random, width, rows.len())),
-        11 => table_bytes(random.width(), &vec![Row::Fresh; rows.len()]),
+        10 => {
+            let others = wellformed::rows(random, width, rows.len());
+            numbered(random, width, &others)
+        }
+        11 => {
+            let width = random.width();
+            numbered(random, width, &vec![Row::Fresh; rows.len()])
+        }
         _ => damaged(random, width, result),
     };
+    if random.one_in(2) {
+        kept = sources::renumbered(random, &kept);
+    }
     if random.one_in(8) {
         kept.extend(random.bytes(30));
     }
@@ -193,7 +203,7 @@ fn foreign_edit(pair: &mut Pair, random: &mut Random, table: &[u8], result: &[u8
     }
 }
 
-/// The result with some rows exchanged for others of their sort.
+/// The result with some rows exchanged for others of their sort, each with the number of the old.
 fn with_other_rows(random: &mut Random, width: Width, result: &[u8]) -> Vec<u8> {
     let (_, mut rows) = decoded(result);
     let taste = Taste::new(random, width);
@@ -201,14 +211,13 @@ fn with_other_rows(random: &mut Random, width: Width, result: &[u8]) -> Vec<u8> 
         let row = random.below(rows.len());
         rows[row] = taste.row(random, rows[row].sort(), &Earlier::of(&rows[..row]));
     }
-    table_bytes(width, &rows)
+    table_bytes(width, &rows, &second::bytes::sources(result))
 }
 
 /// Each call on a damaged table, at times with other faults beside it.
 fn damaged_calls(pair: &mut Pair, random: &mut Random, width: Width, table: &[u8], result: &[u8]) {
     let wrong = damaged(random, width, table);
-    let mut slice = result_slice(random, &wrong);
-    pair.run(&wrong, &mut slice);
+    sources::runs(pair, random, &wrong);
 
     let (first, second) = (row_number(random, &wrong), row_number(random, &wrong));
     let mut slice = result_slice(random, &wrong);

@@ -28,8 +28,10 @@ pub enum End {
 pub const ENDS: [&str; 3] =
     ["found element #", "stands on array #, a store undecided", "stands on array #, no store"];
 
-/// A store compared: the two indexes, the reason, and the numbers that it gives.
+/// A store compared: its row, the two indexes, the reason, and the numbers that it gives.
 pub struct Store {
+    instruction: u64,
+    row: Ref,
     index: Ref,
     against: Ref,
     pub reason: Reason,
@@ -38,10 +40,13 @@ pub struct Store {
 
 impl Store {
     fn of(line: &Line) -> Option<Store> {
-        let given = line.form.strip_prefix("store #: index # against #, ")?;
+        let given = line.form.strip_prefix("instruction #: store #, index # against #, ")?;
         let (reason, _) = *REASONS.iter().find(|(_, form)| *form == given)?;
-        let (index, against) = (line.numbers[1] as Ref, line.numbers[2] as Ref);
-        Some(Store { index, against, reason, says: line.numbers[3..].to_vec() })
+        let [instruction, row, index, against, ref says @ ..] = line.numbers[..] else {
+            return None;
+        };
+        let [row, index, against] = [row, index, against].map(|number| number as Ref);
+        Some(Store { instruction, row, index, against, reason, says: says.to_vec() })
     }
 
     fn true_of(&self, width: Width, words: &[u64]) -> bool {
@@ -63,6 +68,9 @@ impl Store {
 pub struct List {
     pub stores: Vec<Store>,
     pub end: End,
+    /// The row whose list it is, and its instruction numbers: as it was read, and of its result.
+    read: Ref,
+    instructions: [u64; 2],
 }
 
 impl List {
@@ -70,9 +78,14 @@ impl List {
         let text = std::str::from_utf8(bytes).ok()?.strip_suffix('\n')?;
         let lines: Vec<Line> = text.split('\n').map(Line::of).collect::<Option<_>>()?;
         let [read, stores @ .., end, result] = &lines[..] else { return None };
-        if read.form != "read #: array #, index #" || result.form != "result # # # # # # #" {
+        if read.form != "instruction #: read #, array #, index #"
+            || result.form != "result # # # # # # # #"
+            || read.numbers[1] != result.numbers[0]
+        {
             return None;
         }
+        let instructions = [read.numbers[0], result.numbers[7]];
+        let read = read.numbers[1] as Ref;
         let stores: Vec<Store> = stores.iter().map(Store::of).collect::<Option<_>>()?;
         let passed =
             |store: &Store| matches!(store.reason, Reason::SharedBase | Reason::SeparateRanges);
@@ -86,7 +99,14 @@ impl List {
             ("stands on array #", None) => End::OnNoStore,
             _ => return None,
         };
-        Some(List { stores, end })
+        Some(List { stores, end, read, instructions })
+    }
+
+    /// Whether each row stands beside its instruction number.
+    pub fn has_sources(&self, sources: &[u32]) -> bool {
+        let is = |row: Ref, number: u64| sources.get(row).is_some_and(|own| number == *own as u64);
+        self.instructions.iter().all(|number| is(self.read, *number))
+            && self.stores.iter().all(|store| is(store.row, store.instruction))
     }
 
     /// Whether all that is said of the stores is true where the rows mean `words`.
@@ -97,6 +117,16 @@ impl List {
     pub fn most_bytes(&self) -> usize {
         256 * self.stores.len() + 256
     }
+}
+
+/// A list without its instruction numbers.
+pub fn without_sources(list: &str) -> String {
+    let lines = list.lines().map(|line| match line.strip_prefix("instruction ") {
+        Some(numbered) => numbered.split_once(": ").map_or(line, |(_, rest)| rest),
+        None if line.starts_with("result ") => line.rsplit_once(' ').map_or(line, |(rest, _)| rest),
+        None => line,
+    });
+    lines.map(|line| line.to_owned() + "\n").collect()
 }
 
 /// A line with `#` for each of its numbers, and the numbers.

@@ -10,6 +10,7 @@ mod pair;
 mod paper;
 mod pipes;
 mod replacement;
+mod sources;
 mod tally;
 mod walks;
 

@@ -4,6 +4,7 @@
 use crate::lent::Lent;
 use crate::lines::List;
 use crate::tally::{Call, Seen, Tally};
+use second::bytes::sources;
 use second::{Answer, Comparison, Listing};
 use stezkoun::numbers;
 use tables::random::Random;
@@ -109,9 +110,11 @@ impl Pair {
         listing
     }
 
-    /// Holds the second program's list, and so both, to its stated lines and length, and counts it.
+    /// Holds the second program's list, and so both, to its stated lines and length and to the
+    /// instruction numbers of the table, and counts it.
     fn list(&mut self, table: &[u8], row: u64, before: &[u8], after: &[u8], length: usize) {
-        let list = List::of(&after[..length]).filter(|list| length <= list.most_bytes());
+        let list = List::of(&after[..length])
+            .filter(|list| length <= list.most_bytes() && list.has_sources(&sources(table)));
         let right = list.is_some() && after[length..] == before[length..];
         self.expect(right, || format!("a wrong list for row {row} of {}", hex(table)));
         if let Some(list) = list {

@@ -1,29 +1,29 @@
-//! The tables to try of document 01, with the outcomes that it states.
+//! The tables to try of document 01, with the outcomes that it states, and with instruction numbers.
 
 use crate::pair::{hex, Pair};
-use second::bytes::{row_bytes, table_bytes};
+use second::bytes::{row_bytes, table_bytes, MOST_ROWS};
 use second::text::packed;
 use second::{Answer, Relation, Row, Width};
 
-/// P1 written out, so that the encoder is not trusted with it.
+/// P1 written out, so that the encoder is not trusted with it; examples/p1.rows is its text.
 const P1: &str = "465408000900\
-    524f0200000000000000c800000000000000fa00000000000000\
-    524f080000000000000000000000000000000000000000000000\
-    524f0300000000000000f8000000000000000000000000000000\
-    524f010000000000000007000000000000000000000000000000\
-    524f090001000200030000000000000000000000000000000000\
-    524f0300000000000000e0000000000000000000000000000000\
-    524f030005000000000018000000000000000000000000000000\
-    524f070004000600000000000000000000000000000000000000\
-    524f070004000700000000000000000000000000000000000000";
+    524f0200000000000000c800000000000000fa0000000000000000000000\
+    524f08000000000000000000000000000000000000000000000000000000\
+    524f0300000000000000f800000000000000000000000000000006000000\
+    524f01000000000000000700000000000000000000000000000006000000\
+    524f09000100020003000000000000000000000000000000000006000000\
+    524f0300000000000000e000000000000000000000000000000009000000\
+    524f03000500000000001800000000000000000000000000000009000000\
+    524f07000400060000000000000000000000000000000000000009000000\
+    524f0700040007000000000000000000000000000000000000000c000000";
 
 pub fn p1() -> Vec<u8> {
     let digits: Vec<u8> = P1.bytes().map(|c| (c as char).to_digit(16).unwrap() as u8).collect();
     digits.chunks(2).map(|pair| pair[0] << 4 | pair[1]).collect()
 }
 
-const P1_RESULT: &str = "width 8; VAR 200 250; FRESH; SHIFT 0 248; CONST 7; WRITE 1 2 3; \
-    SHIFT 0 224; SHIFT 0 248; CONST 7;";
+const P1_RESULT: &str = "width 8; VAR 200 250; FRESH; SHIFT 0 248 @6; CONST 7 @6; WRITE 1 2 3 @6; \
+    SHIFT 0 224 @9; SHIFT 0 248 @9; CONST 7 @9;";
 
 fn accepted(removed: u64, touched: u64) -> Answer {
     Answer { refusal: 0, row: 0, removed, touched }
@@ -65,17 +65,18 @@ pub fn cases(pair: &mut Pair) {
 
 fn p1_to_p4(pair: &mut Pair) {
     let p1 = p1();
-    let result = table(&format!("{P1_RESULT} READ 1 7"));
+    let result = table(&format!("{P1_RESULT} READ 1 7 @12"));
     runs(pair, &p1, accepted(1, 9), Some(&result));
 
     let (mut edited, mut kept) = (p1.clone(), result.clone());
-    let wide = row_bytes(Row::Var { low: 0, high: 250 });
+    let wide = row_bytes(Row::Var { low: 0, high: 250 }, u32::MAX);
     let answer = pair.edit(&mut edited, &mut kept, 0, &wide);
-    let outcome = table(&format!("{P1_RESULT} READ 4 7").replace("VAR 200", "VAR 0"));
+    let outcome = format!("{P1_RESULT} READ 4 7 @12");
+    let outcome = table(&outcome.replace("VAR 200 250", "VAR 0 250 @4294967295"));
     pair.expect(answer == accepted(1, 7) && kept == outcome, || format!("P2 gave {answer:?}"));
 
     let (mut edited, mut kept) = (p1.clone(), result.clone());
-    let answer = pair.edit(&mut edited, &mut kept, 1, &row_bytes(Row::Const { k: 0 }));
+    let answer = pair.edit(&mut edited, &mut kept, 1, &row_bytes(Row::Const { k: 0 }, 1));
     pair.expect(answer == refused(14, 4), || format!("P3 gave {answer:?}"));
 
     let empty = [0x46, 0x54, 8, 0, 0, 0];
@@ -106,11 +107,11 @@ fn words_and_writes(pair: &mut Pair) {
         runs(pair, &input, accepted(0, touched), Some(&result));
     };
     let p8 = "width 8; VAR 0 255; SHIFT 0 5; SHIFT 0 3;";
-    becomes(p8, "DIFF 1 2 0; DIFF 2 1 0", "CONST 2; CONST 254", 5);
+    becomes(p8, "DIFF 1 2 0 @3; DIFF 2 1 0 @2", "CONST 2 @3; CONST 254 @2", 5);
     let p9 = "width 64; VAR 0 18446744073709551615; SHIFT 0 18446744073709551615;";
-    becomes(p9, "SHIFT 1 1", "SHIFT 0 0", 3);
+    becomes(p9, "SHIFT 1 1 @16777216", "SHIFT 0 0 @16777216", 3);
     let p10 = "width 8; FRESH; VAR 0 255; WRITE 0 1 1;";
-    becomes(p10, "WRITE 2 1 1", "WRITE 0 1 1", 4);
+    becomes(p10, "WRITE 2 1 1 @65535", "WRITE 0 1 1 @65535", 4);
 }
 
 fn run_line(pair: &mut Pair) {
@@ -120,10 +121,14 @@ fn run_line(pair: &mut Pair) {
     runs(pair, &header(1), accepted(0, 0), Some(&header(1)));
     runs(pair, &header(64), accepted(0, 0), Some(&header(64)));
 
-    let eight = Width::new(8).unwrap();
-    runs(pair, &table_bytes(eight, &vec![Row::Fresh; 1025]), refused(4, 0), None);
-    let full = table_bytes(eight, &vec![Row::Fresh; 1024]);
+    let fresh_rows = |count: usize| {
+        let sources: Vec<u32> = (0..count as u32).collect();
+        table_bytes(Width::new(8).unwrap(), &vec![Row::Fresh; count], &sources)
+    };
+    runs(pair, &fresh_rows(MOST_ROWS + 1), refused(4, 0), None);
+    let full = fresh_rows(MOST_ROWS);
     runs(pair, &full, accepted(0, 1024), Some(&full));
+    pair.expect(full.len() == 30_726, || format!("{} bytes in 1,024 rows", full.len()));
     runs(pair, &table("width 8; CONST 255"), accepted(0, 1), None);
     runs(pair, &table("width 8; CONST 256"), refused(12, 0), None);
     runs(pair, &table("width 8; VAR 0 9; SHIFT 1 0"), refused(13, 1), None);

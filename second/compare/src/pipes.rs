@@ -6,7 +6,7 @@ use crate::groups::some_rows;
 use crate::pair::{hex, Pair};
 use crate::paper::p1;
 use crate::walks::reads;
-use second::bytes::table_bytes;
+use second::bytes::{MOST_ROWS, ROW};
 use second::{Row, Width};
 use std::ffi::OsStr;
 use std::io::Write;
@@ -14,6 +14,7 @@ use std::os::unix::ffi::OsStrExt;
 use std::path::Path;
 use std::process::{Command, Stdio};
 use tables::random::Random;
+use tables::sources::numbered;
 
 const TABLES: u64 = 400;
 
@@ -64,18 +65,19 @@ fn printed(program: &Path, call: &Call) -> Vec<u8> {
 fn inputs(seed: u64) -> Vec<Vec<u8>> {
     let mut inputs = vec![vec![], p1()];
     let eight = Width::new(8).unwrap();
-    let full = table_bytes(eight, &vec![Row::Fresh; 1024]);
-    // Just full, and longer by what a program sees and by what it does not.
-    inputs.push(full.clone());
-    for more in [1, 2, 26, 30_000] {
-        let mut longer = full.clone();
-        longer.resize(full.len() + more, 0);
-        inputs.push(longer);
+    let full = numbered(&mut Random::new(seed), eight, &vec![Row::Fresh; MOST_ROWS]);
+    // A byte short, just full, and longer by what a program sees and by what it does not.
+    let most = full.len();
+    for length in [most - 1, most, most + 1, most + 2, most + ROW, most + 30_000] {
+        let mut input = full.clone();
+        input.resize(length, 0);
+        inputs.push(input);
     }
     for number in 0..TABLES {
         let random = &mut Random::stream(!seed, number);
         let width = random.width();
-        let table = table_bytes(width, &some_rows(random, width, number));
+        let rows = some_rows(random, width, number);
+        let table = numbered(random, width, &rows);
         let spoil = random.one_in(3);
         inputs.push(if spoil { damaged(random, width, &table) } else { table });
     }

@@ -1,13 +1,14 @@
 //! Rows to put in the place of others.
 
 use crate::damage;
-use second::bytes::{row_bytes, table_length, ROW};
+use second::bytes::{row_bytes, table_length, ROW, SOURCE};
 use second::check::{check_header, check_rows};
 use second::{Row, Sort, Width};
 use tables::random::Random;
 use tables::wellformed::{Earlier, Taste};
 
-/// A replacement for row `number` of `rows`: as a rule well formed and of the same sort.
+/// A replacement for row `number` of `rows`: as a rule well formed and of the same sort, with any
+/// instruction number.
 pub fn replacement(
     random: &mut Random, width: Width, rows: &[Row], kept: &[u8], number: u64,
 ) -> Vec<u8> {
@@ -25,9 +26,9 @@ pub fn replacement(
         Row::Shift { a, .. } if random.one_in(2) => Row::Shift { a, k: random.word(width) },
         _ => taste.row(random, sort, &Earlier::of(&rows[..row])),
     });
-    let mut bytes = row_bytes(new).to_vec();
+    let mut bytes = row_bytes(new, random.source()).to_vec();
     match random.below(24) {
-        0 => bytes.resize(random.pick(&[0, 1, ROW - 1, ROW + 1, 2 * ROW]), 0),
+        0 => bytes.resize(random.pick(&[0, 1, SOURCE, ROW - 1, ROW + 1, 2 * ROW]), 0),
         1 | 2 => damage::row(random, width, row, &mut bytes),
         _ => {}
     }

@@ -71,40 +71,47 @@ pub fn any_row(pair: &mut Pair, random: &mut Random, table: &[u8]) {
 /// What docs/WHY.md says, on tables small enough to be worked out by hand.
 pub fn stated(pair: &mut Pair) {
     pair.group = "stated lists".into();
-    let passed = "read 8: array 4, index 7\n\
-        store 4: index 2 against 7, separate ranges, 192..242 and 7..7\n\
+    let passed = "instruction 12: read 8, array 4, index 7\n\
+        instruction 6: store 4, index 2 against 7, separate ranges, 192..242 and 7..7\n\
         stands on array 1\n\
-        result 8 7 1 7 0 0 0\n";
+        result 8 7 1 7 0 0 0 12\n";
     lists(pair, &p1(), 8, passed);
-    let met = "read 7: array 4, index 6\n\
-        store 4: index 2 against 6, same place\n\
+    let met = "instruction 9: read 7, array 4, index 6\n\
+        instruction 6: store 4, index 2 against 6, same place\n\
         found element 3\n\
-        result 7 1 0 0 0 7 0\n";
+        result 7 1 0 0 0 7 0 9\n";
     lists(pair, &p1(), 7, met);
 
     // Both a shared base and separate ranges tell rows 0 and 1 apart; no store lies under row 2.
-    let both = table("width 8; VAR 0 9; SHIFT 0 100; FRESH; WRITE 2 1 0; READ 3 0; READ 2 0");
-    let shared = "read 4: array 3, index 0\n\
-        store 3: index 1 against 0, different offsets on a shared base, 100 and 0\n\
+    let both = table(
+        "width 8; VAR 0 9; SHIFT 0 100; FRESH; WRITE 2 1 0 @4294967295; READ 3 0 @1000000000; \
+        READ 2 0",
+    );
+    let shared = "instruction 1000000000: read 4, array 3, index 0\n\
+        instruction 4294967295: store 3, index 1 against 0, \
+        different offsets on a shared base, 100 and 0\n\
         stands on array 2\n\
-        result 4 7 2 0 0 0 0\n";
+        result 4 7 2 0 0 0 0 1000000000\n";
     lists(pair, &both, 4, shared);
-    lists(pair, &both, 5, "read 5: array 2, index 0\nstands on array 2\nresult 5 7 2 0 0 0 0\n");
+    let alone = "instruction 0: read 5, array 2, index 0\n\
+        stands on array 2\n\
+        result 5 7 2 0 0 0 0 0\n";
+    lists(pair, &both, 5, alone);
 
     // Row 4 skips row 3, so it stands on row 1; its index and element go by their plain names.
     let renamed = table(
-        "width 64; VAR 0 18446744073709551615; FRESH; SHIFT 0 0; WRITE 1 0 0; WRITE 3 2 2; \
-        VAR 0 1; SHIFT 5 0; READ 4 6; READ 4 2",
+        "width 64; VAR 0 18446744073709551615; FRESH; SHIFT 0 0; WRITE 1 0 0 @3; WRITE 3 2 2 @70; \
+        VAR 0 1; SHIFT 5 0; READ 4 6 @69; READ 4 2 @70",
     );
-    let undecided = "read 7: array 4, index 6\n\
-        store 4: index 0 against 6, undecided\n\
+    let undecided = "instruction 69: read 7, array 4, index 6\n\
+        instruction 70: store 4, index 0 against 6, undecided\n\
         stands on array 4\n\
-        result 7 7 4 5 0 0 0\n";
+        result 7 7 4 5 0 0 0 69\n";
     lists(pair, &renamed, 7, undecided);
-    let found = "read 8: array 4, index 2\n\
-        store 4: index 0 against 2, same place\n\
+    let found = "instruction 70: read 8, array 4, index 2\n\
+        instruction 70: store 4, index 0 against 2, same place\n\
         found element 0\n\
-        result 8 3 0 0 0 0 0\n";
+        result 8 3 0 0 0 0 0 70\n";
     lists(pair, &renamed, 8, found);
 
     refuses(pair, 4, 500, [17, 4], 0);

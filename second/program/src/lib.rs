@@ -1,6 +1,7 @@
-//! The second program: the term table of document 01 and the lists of docs/WHY.md, written from
-//! those documents alone, so that the library can be held to it. Rows are decoded once, worked on as enums, and encoded
-//! at the end; nothing lent is written before the outcome is certain.
+//! The second program: the term table of document 01 and its change requests and the lists of
+//! docs/WHY.md, written from those documents alone, so that the library can be held to it. Rows are
+//! decoded once, worked on as enums, and encoded at the end, where each gets its instruction number,
+//! which no rule has seen; nothing lent is written before the outcome is certain.
 
 pub mod bytes;
 pub mod check;
@@ -20,7 +21,7 @@ pub use watch::{Event, Watch};
 pub use why::{why, why_watched, Listing};
 pub use word::Width;
 
-use bytes::{place, row_bytes, table_length, HEADER, ROW};
+use bytes::{place, row_bytes, sources, table_length, HEADER, ROW};
 use check::{check_header, check_rows, refused, Header, Refused};
 use simplify::Simplifier;
 
@@ -55,7 +56,7 @@ pub fn run_watched(table: &[u8], result: &mut [u8], watch: &mut impl Watch) -> A
         let header = check_lent(table, result)?;
         let rows = check_rows(table, header)?;
         let outcome = simplified(header, &rows, watch);
-        write_result(result, table, outcome.rows());
+        write_result(result, table, outcome.rows(), &sources(table));
         Ok(counts(&rows, outcome.rows(), header.rows))
     })())
 }
@@ -75,6 +76,7 @@ pub fn edit_watched(
         let standing = check_kept(&new_table, &rows, &kept[..new_table.len()], watch)?;
 
         let leads_back = leading_back(&rows, edited);
+        let carried = carried(&new_table, &kept[..new_table.len()], &leads_back, watch);
         let mut outcome = Simplifier::new(header.width, header.rows, watch);
         for number in 0..header.rows {
             if leads_back[number] {
@@ -85,7 +87,7 @@ pub fn edit_watched(
         }
         let touched = leads_back.iter().filter(|leads| **leads).count();
         table[place(edited)].copy_from_slice(replacement);
-        write_result(kept, table, outcome.rows());
+        write_result(kept, table, outcome.rows(), &carried);
         Ok(counts(&rows, outcome.rows(), touched))
     })())
 }
@@ -106,7 +108,7 @@ pub fn compare_watched(
         }
         let mut outcome = simplified(header, &rows, watch);
         relation = outcome.relation(first as usize, second as usize);
-        write_result(result, table, outcome.rows());
+        write_result(result, table, outcome.rows(), &sources(table));
         Ok(counts(&rows, outcome.rows(), header.rows))
     })());
     Comparison { answer, relation }
@@ -165,17 +167,32 @@ fn leading_back(rows: &[Row], edited: Ref) -> Vec<bool> {
     leads
 }
 
+/// The instruction numbers of an edit's outcome: a row worked out anew has that of its row in the
+/// edited table, any other the one that it was kept with.
+fn carried(table: &[u8], kept: &[u8], anew: &[bool], watch: &mut impl Watch) -> Vec<u32> {
+    let mut numbers = sources(kept);
+    for ((number, own), anew) in numbers.iter_mut().zip(sources(table)).zip(anew) {
+        if *number != own {
+            watch.saw(if *anew { Event::SourceTaken } else { Event::SourceStays });
+        }
+        if *anew {
+            *number = own;
+        }
+    }
+    numbers
+}
+
 /// The counts of an accepted call: removed, touched.
 fn counts(rows: &[Row], outcome: &[Row], touched: usize) -> (usize, usize) {
     let removed = rows.iter().zip(outcome).filter(|(row, new)| row.is_read() && !new.is_read());
     (removed.count(), touched)
 }
 
-fn write_result(result: &mut [u8], table: &[u8], rows: &[Row]) {
+fn write_result(result: &mut [u8], table: &[u8], rows: &[Row], sources: &[u32]) {
     result[..HEADER].copy_from_slice(&table[..HEADER]);
     let places = result[HEADER..table_length(rows.len())].chunks_exact_mut(ROW);
-    for (place, row) in places.zip(rows) {
-        place.copy_from_slice(&row_bytes(*row));
+    for ((place, row), source) in places.zip(rows).zip(sources) {
+        place.copy_from_slice(&row_bytes(*row, *source));
     }
 }
 

@@ -1,7 +1,7 @@
 //! Tables as text: what `show` and `why` print, and the row language the example tables are
 //! written in.
 
-use crate::bytes::{numbers, table_bytes, table_length, MOST_ROWS};
+use crate::bytes::{numbers, sources, table_bytes, table_length, MOST_ROWS};
 use crate::check::{check_header, check_rows};
 use crate::row::{Ref, Row};
 use crate::word::Width;
@@ -30,8 +30,8 @@ pub fn shown(table: &[u8]) -> String {
     let header = check_header(&result).expect("a result has its table's header");
     let rows = check_rows(&result, header).expect("a result is well formed");
     let mut text = format!("width {} rows {}\n", header.width.bits(), header.rows);
-    for (number, row) in rows.iter().enumerate() {
-        text += &row_line(number, *row);
+    for (number, (row, source)) in rows.into_iter().zip(sources(&result)).enumerate() {
+        text += &row_line(number, row, source);
     }
     text
 }
@@ -47,39 +47,51 @@ pub fn listed(table: &[u8], row: u64) -> String {
     String::from_utf8(list).expect("a list is text")
 }
 
-pub fn row_line(number: Ref, row: Row) -> String {
+pub fn row_line(number: Ref, row: Row, source: u32) -> String {
     let (kind, [a, b, c], [k, h]) = numbers(row);
-    format!("{number} {kind} {a} {b} {c} {k} {h}\n")
+    format!("{number} {kind} {a} {b} {c} {k} {h} {source}\n")
 }
 
 fn refusal_line(answer: Answer) -> String {
     format!("refused {} row {}\n", answer.refusal, answer.row)
 }
 
-/// A table from `width 8` and rows such as `SHIFT 0 248`, each on a line or ended by a semicolon;
-/// `#` begins a remark. Nothing is checked but the words and the width, so that refused tables
-/// can be written too.
+/// A table from `width 8` and rows such as `SHIFT 0 248 @6`, each on a line or ended by a semicolon;
+/// `#` begins a remark. `@` and the instruction number end a row; without them it is 0. Nothing is
+/// checked but the words and the width, so that refused tables can be written too.
 pub fn packed(text: &str) -> Result<Vec<u8>, String> {
     let mut width = None;
-    let mut rows = Vec::new();
+    let (mut rows, mut sources) = (Vec::new(), Vec::new());
     let lines = text.lines().map(|line| line.split('#').next().unwrap_or(""));
     for item in lines.flat_map(|line| line.split(';')) {
-        let mut words = item.split_whitespace();
-        let Some(name) = words.next() else { continue };
+        let words: Vec<&str> = item.split_whitespace().collect();
         let fault = || format!("not understood: {item}");
-        let values: Vec<u64> =
-            words.map(str::parse).collect::<Result<_, _>>().map_err(|_| fault())?;
-        if name == "width" {
-            let bits = values.first().and_then(|bits| u8::try_from(*bits).ok());
-            width = Some(bits.and_then(Width::new).ok_or_else(fault)?);
-        } else {
-            rows.push(row(name, &values).ok_or_else(fault)?);
+        match words[..] {
+            [] => {}
+            ["width", bits] => {
+                width = Some(bits.parse().ok().and_then(Width::new).ok_or_else(fault)?)
+            }
+            [name, ref fields @ ..] => {
+                let (row, source) = row(name, fields).ok_or_else(fault)?;
+                rows.push(row);
+                sources.push(source);
+            }
         }
     }
-    Ok(table_bytes(width.ok_or("no width given")?, &rows))
+    Ok(table_bytes(width.ok_or("no width given")?, &rows, &sources))
 }
 
-fn row(name: &str, values: &[u64]) -> Option<Row> {
+/// A row and its instruction number.
+fn row(name: &str, fields: &[&str]) -> Option<(Row, u32)> {
+    let (source, fields) = match fields {
+        [fields @ .., last] if last.starts_with('@') => (last[1..].parse().ok()?, fields),
+        _ => (0, fields),
+    };
+    let values: Vec<u64> = fields.iter().map(|word| word.parse().ok()).collect::<Option<_>>()?;
+    Some((unnumbered(name, &values)?, source))
+}
+
+fn unnumbered(name: &str, values: &[u64]) -> Option<Row> {
     let reference = |i: usize| values[i] as usize;
     Some(match (name, values.len()) {
         ("CONST", 1) => Row::Const { k: values[0] },

@@ -53,6 +53,8 @@ events! {
     KeptMalformed: "kept result refused as a table",
     KeptOtherHeader: "kept result with another header",
     KeptOtherSort: "kept result with a row of the other sort",
+    SourceTaken: "touched row gives up a number that was not its own",
+    SourceStays: "untouched row keeps a number that is not its own",
 }
 
 pub trait Watch {

@@ -1,5 +1,6 @@
 //! Why a read moved: the walk of one READ row as a list of lines, which docs/WHY.md sets.
 
+use crate::bytes::sources;
 use crate::check::{check_rows, refused, Refused};
 use crate::row::{Ref, Row};
 use crate::simplify::{End, Simplifier};
@@ -31,24 +32,31 @@ pub fn why_watched(
             return Err(Refused { number: 17, row });
         };
         let mut outcome = simplified(header, &rows, watch);
-        let lines = lines(&mut outcome, read, array, index);
+        let sources = sources(table);
+        let lines = lines(&mut outcome, &sources, read, array, index);
         length = lines.len();
         list.get_mut(..length).ok_or(refused(22))?.copy_from_slice(lines.as_bytes());
-        write_result(result, table, outcome.rows());
+        write_result(result, table, outcome.rows(), &sources);
         Ok(counts(&rows, outcome.rows(), header.rows))
     })());
     Listing { answer, length: length as u64 }
 }
 
 /// The list of row `read`. All that its walk met stands below it, so it may be walked again.
-fn lines<W: Watch>(outcome: &mut Simplifier<W>, read: Ref, array: Ref, index: Ref) -> String {
-    let mut lines = format!("read {read}: array {array}, index {index}\n");
+fn lines<W: Watch>(
+    outcome: &mut Simplifier<W>, sources: &[u32], read: Ref, array: Ref, index: Ref,
+) -> String {
+    let own = sources[read];
+    let mut lines = format!("instruction {own}: read {read}, array {array}, index {index}\n");
     let end = outcome.walk(array, index, |store, at, reason| {
-        lines += &format!("store {store}: index {at} against {index}, {reason}\n");
+        lines += &format!(
+            "instruction {}: store {store}, index {at} against {index}, {reason}\n",
+            sources[store]
+        );
     });
     lines += &match end {
         End::Found { element } => format!("found element {element}\n"),
         End::Stands { on } => format!("stands on array {on}\n"),
     };
-    lines + &format!("result {}", row_line(read, outcome.rows()[read]))
+    lines + &format!("result {}", row_line(read, outcome.rows()[read], own))
 }

@@ -1,6 +1,8 @@
-//! Well-formed tables for the comparison and the benchmark, made from a seed.
+//! Well-formed tables for the comparison and the benchmark, made from a seed: first the rows, then
+//! their instruction numbers.
 
 pub mod chain;
 pub mod machine;
 pub mod random;
+pub mod sources;
 pub mod wellformed;

@@ -67,4 +67,13 @@ impl Random {
             _ => self.from_to(0, width.largest()),
         }
     }
+
+    /// An instruction number, the ends more often.
+    pub fn source(&mut self) -> u32 {
+        match self.below(12) {
+            0 => 0,
+            1 => u32::MAX,
+            _ => self.draw() as u32,
+        }
+    }
 }

@@ -6,8 +6,8 @@ use Rattle.lines.proofs.put_line.Tie as tie
 put-decimal-requires : tie.Need-put-decimal-requires
 put-decimal-requires c κs = search needs
 
-cast-t9 : tie.Need-cast-t9
-cast-t9 c = search needs
+cast-t10 : tie.Need-cast-t10
+cast-t10 c = search needs
 
 slice-aggregate-put-spaced : tie.Need-slice-aggregate-put-spaced
 slice-aggregate-put-spaced c = search needs
@@ -29,7 +29,7 @@ put-line-spec =
     tie.close
     (tie.spec
     put-decimal-requires
-    cast-t9
+    cast-t10
     slice-aggregate-put-spaced
     put-spaced-requires
     put-byte-requires

@@ -18,17 +18,17 @@ loop-holds : tie.Need-loop-holds Inv-loop μ-loop
 unfolding lines
 loop-holds c = (put-none _ _, omega arith)
 
-add-put-line : tie.Need-add-put-line Inv-loop μ-loop
+add-r : tie.Need-add-r Inv-loop μ-loop
 unfolding place
-add-put-line c = omega arith
-
-add-decode : tie.Need-add-decode Inv-loop μ-loop
-unfolding place
-add-decode c = omega arith
+add-r c = omega arith
 
 decode-requires : tie.Need-decode-requires Inv-loop μ-loop
 unfolding place
 decode-requires c κs = omega arith
+
+source-at-requires : tie.Need-source-at-requires Inv-loop μ-loop
+unfolding place
+source-at-requires c κs = omega arith
 
 put-line-requires : tie.Need-put-line-requires Inv-loop μ-loop
 put-line-requires c κs = omega arith
@@ -55,9 +55,9 @@ put-lines-spec =
     Inv-loop
     μ-loop
     loop-holds
-    add-put-line
-    add-decode
+    add-r
     decode-requires
+    source-at-requires
     put-line-requires
     add-i
     loop-less

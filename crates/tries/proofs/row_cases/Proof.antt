@@ -7,10 +7,10 @@ use Rattle.tries.proofs.row_cases.Statement.{statement}
 use Rattle.tries.proofs.row_cases.Tie as tie
 
 abbrev Inv-loop : tie.InvT-loop
-Inv-loop t₀ cases i₀ t i = (i ≤ 47) × (length cases ≡ 47)
+Inv-loop t₀ source cases i₀ t i = (i ≤ 47) × (length cases ≡ 47)
 
 abbrev μ-loop : tie.MeasureT-loop
-μ-loop t₀ cases i₀ t i = 47 - i
+μ-loop t₀ source cases i₀ t i = 47 - i
 
 make-requires : tie.Need-make-requires Inv-loop μ-loop
 make-requires c κs = search needs

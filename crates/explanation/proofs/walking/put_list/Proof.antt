@@ -6,6 +6,9 @@ use Rattle.explanation.proofs.walking.put_list.Tie as tie
 decode-requires : tie.Need-decode-requires
 decode-requires c κs = search needs
 
+source-at-requires : tie.Need-source-at-requires
+source-at-requires c κs = search needs
+
 put-read-requires : tie.Need-put-read-requires
 put-read-requires c κs = search needs
 
@@ -25,13 +28,14 @@ same-length : tie.Need-same-length
 same-length c = search needs
 
 returns : tie.Need-returns
-returns c = list-done _ _ _ _ _ (c .before .before .before .before .before .before .before .before .before .before .before .before .before .before .before .before .before .before .pre) (c .before .before .before .before .before .before .before .before .before .before .before .before .before .before .decode .ensures) (c .before .before .before .before .before .before .before .before .before .before .before .before .put-read .ensures) (c .before .before .before .before .before .before .before .put-walk .ensures) (c .before .before .before .decode2 .ensures) (c .before .before .put-result .ensures)
+returns c = list-done _ _ _ _ _ (c .before .before .before .before .before .before .before .before .before .before .before .before .before .before .before .before .before .before .before .pre) (c .before .before .before .before .before .before .before .before .before .before .before .before .before .before .before .decode .ensures) (c .before .before .before .before .before .before .before .before .before .before .before .before .before .before .source-at .ensures) (c .before .before .before .before .before .before .before .before .before .before .before .before .put-read .ensures) (c .before .before .before .before .before .before .before .put-walk .ensures) (c .before .before .before .decode2 .ensures) (c .before .before .put-result .ensures)
 
 pub put-list-spec : {M : Type 1} → statement M
 put-list-spec =
     tie.close
     (tie.spec
     decode-requires
+    source-at-requires
     put-read-requires
     index-at-requires
     put-walk-requires

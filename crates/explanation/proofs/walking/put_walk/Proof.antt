@@ -1,14 +1,14 @@
 use Prim.Native.Nat.{_-_}
 use borrow.Author.Needs.{needs}
-use Rattle.explanation.proofs.Steps.{Told, tell-begins, tell-decodes, tell-early, tell-length, tell-spent, tell-ends, tell-compares, tell-early-2, tell-length-2, tell-finds, tell-stops, tell-passes}
+use Rattle.explanation.proofs.Steps.{Told, tell-begins, tell-decodes, tell-sources, tell-near, tell-early, tell-length, tell-spent, tell-ends, tell-compares, tell-early-2, tell-length-2, tell-finds, tell-stops, tell-passes}
 use Rattle.explanation.proofs.walking.put_walk.Statement.{statement}
 use Rattle.explanation.proofs.walking.put_walk.Tie as tie
 
 abbrev Inv-loop : tie.InvT-loop
-Inv-loop out₀ at result store limit r i j m next₀ n₀ compared₀ out next n compared = Told result store out₀ at limit i m r out next n compared
+Inv-loop out₀ at table result store limit r i j m next₀ n₀ compared₀ out next n compared = Told table result store out₀ at limit i m r out next n compared
 
 abbrev μ-loop : tie.MeasureT-loop
-μ-loop out₀ at result store limit r i j m next₀ n₀ compared₀ out next n compared = limit - compared
+μ-loop out₀ at table result store limit r i j m next₀ n₀ compared₀ out next n compared = limit - compared
 
 loop-holds : tie.Need-loop-holds Inv-loop μ-loop
 loop-holds c = search tell-begins
@@ -28,8 +28,11 @@ returns c = search tell-ends
 reason-requires : tie.Need-reason-requires Inv-loop μ-loop
 reason-requires c κs = search tell-compares
 
+source-at-requires : tie.Need-source-at-requires Inv-loop μ-loop
+source-at-requires c κs = search tell-sources
+
 put-store-requires : tie.Need-put-store-requires Inv-loop μ-loop
-put-store-requires c κs = search tell-early
+put-store-requires c κs = search (tell-early, needs)
 
 known-by-requires : tie.Need-known-by-requires Inv-loop μ-loop
 known-by-requires c κs = search needs
@@ -38,7 +41,7 @@ enum-told : tie.Need-enum-told Inv-loop μ-loop
 enum-told c = search needs
 
 put-found-requires : tie.Need-put-found-requires Inv-loop μ-loop
-put-found-requires c κs = search tell-early-2
+put-found-requires c κs = search (tell-early-2, tell-near, needs)
 
 same-length-2 : tie.Need-same-length-2 Inv-loop μ-loop
 same-length-2 c = search tell-length-2
@@ -53,7 +56,7 @@ enum-told-3 : tie.Need-enum-told-3 Inv-loop μ-loop
 enum-told-3 c = search needs
 
 put-stands-requires-2 : tie.Need-put-stands-requires-2 Inv-loop μ-loop
-put-stands-requires-2 c κs = search tell-early-2
+put-stands-requires-2 c κs = search (tell-early-2, tell-near, needs)
 
 same-length-3 : tie.Need-same-length-3 Inv-loop μ-loop
 same-length-3 c = search tell-length-2
@@ -91,6 +94,7 @@ put-walk-spec =
     same-length
     returns
     reason-requires
+    source-at-requires
     put-store-requires
     known-by-requires
     enum-told

@@ -3,17 +3,17 @@ use borrow.Author.Needs.{needs}
 use Rattle.listing.proofs.words.put_read.Statement.{statement}
 use Rattle.listing.proofs.words.put_read.Tie as tie
 
+slice-aggregate-put-access : tie.Need-slice-aggregate-put-access
+slice-aggregate-put-access c = search needs
+
+put-access-requires : tie.Need-put-access-requires
+put-access-requires c κs = search needs
+
 slice-aggregate-put-labelled : tie.Need-slice-aggregate-put-labelled
 slice-aggregate-put-labelled c = search needs
 
 put-labelled-requires : tie.Need-put-labelled-requires
 put-labelled-requires c κs = search needs
-
-slice-aggregate-put-labelled-2 : tie.Need-slice-aggregate-put-labelled-2
-slice-aggregate-put-labelled-2 c = search needs
-
-put-labelled-requires-2 : tie.Need-put-labelled-requires-2
-put-labelled-requires-2 c κs = search needs
 
 slice-aggregate-put-last : tie.Need-slice-aggregate-put-last
 slice-aggregate-put-last c = search needs
@@ -31,10 +31,10 @@ pub put-read-spec : {M : Type 1} → statement M
 put-read-spec =
     tie.close
     (tie.spec
+    slice-aggregate-put-access
+    put-access-requires
     slice-aggregate-put-labelled
     put-labelled-requires
-    slice-aggregate-put-labelled-2
-    put-labelled-requires-2
     slice-aggregate-put-last
     put-last-requires
     same-length

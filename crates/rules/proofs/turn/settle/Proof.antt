@@ -9,6 +9,9 @@ decode-requires c κs = search needs
 rewrite-requires : tie.Need-rewrite-requires
 rewrite-requires c κs = search (settle-asks, settle-traced)
 
+source-at-requires : tie.Need-source-at-requires
+source-at-requires c κs = search needs
+
 put-requires : tie.Need-put-requires
 put-requires c κs = search needs
 
@@ -33,6 +36,7 @@ settle-spec =
     (tie.spec
     decode-requires
     rewrite-requires
+    source-at-requires
     put-requires
     same-length
     returns

@@ -1,0 +1,50 @@
+// The number that an argument of a program gives.
+ghost use mathlib.Core.Path.{_≡_};
+ghost use Rattle.argument.specs.Argument.{isDigit, numberOf};
+
+// What an argument reads as.
+pub enum Parsed {
+    Number(u64),
+    Nothing,
+}
+
+// the digits that a number of 64 bits has at most, and the largest such number
+pub const DIGITS: usize = 20;
+
+const MOST: u64 = 0xffff_ffff_ffff_ffff;
+
+fn is_digit(c: u8) -> bool
+    ensures { λ r. ⌜ r ≡ isDigit c ⌝ }
+{
+    if c < b'0' {
+        return false;
+    }
+    c <= b'9'
+}
+
+// The number that a word reads as.
+pub fn number(word: &[u8]) -> Parsed
+    ensures { λ r. ⌜ r ≡ numberOf (now (word .entry)) ⌝ }
+{
+    if word.len() == 0 {
+        return Parsed::Nothing;
+    }
+    if word.len() > DIGITS {
+        return Parsed::Nothing;
+    }
+    let mut value = 0;
+    let mut i = 0;
+    while i < word.len() {
+        let c = word[i];
+        if !is_digit(c) {
+            return Parsed::Nothing;
+        }
+        let digit = (c - b'0') as u64;
+        if value > (MOST - digit) / 10 {
+            return Parsed::Nothing;
+        }
+        value = value * 10 + digit;
+        i += 1;
+    }
+    Parsed::Number(value)
+}

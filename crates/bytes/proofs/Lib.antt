@@ -1,0 +1,2 @@
+-- Laws of numbers and their bytes.
+pub mod Numbers

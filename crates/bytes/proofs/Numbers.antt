@@ -1,0 +1,63 @@
+-- Numbers and their bytes: what the code reads and writes piece by piece, and that either gives back the other.
+use Prim.Native.Nat.{ℕ, zero, suc, _+_, _*_, _/_, _%_, _^_, _<_, _≤_}
+use native.Mathlib.Nat.{add-assoc, add-zero, pow-succ', zero-add}
+use native.Mathlib.Numerals.{add-one, one-add}
+use native.Mathlib.Omega.{arith}
+use mathlib.Core.Path.{_≡_, refl, ap, ap₂}
+use mathlib.Core.List.{List, _∷_}
+use lib.ListN.{length, take, drop}
+use lib.Seq.{sets, drop-cons}
+use Rattle.basis.proofs.Sets.{sets-then}
+use Rattle.bytes.specs.Numbers.{byte, number, bytes, AllBytes}
+
+pub number-four : (t : List ℕ) (i : ℕ) → number 4 t i ≡ byte t i + 256 * (byte t (i + 1) + 256 * (byte t (i + 2) + 256 * byte t (i + 3)))
+unfolding number
+number-four t i = simp add-assoc (omega arith)
+
+pub number-eight : (t : List ℕ) (i : ℕ) → number 8 t i ≡ number 4 t i + 4294967296 * number 4 t (i + 4)
+unfolding number
+number-eight t i = simp add-assoc (omega arith)
+
+pub length-bytes : (n v : ℕ) → length (bytes n v) ≡ n
+unfolding bytes
+length-bytes zero v = refl
+length-bytes (suc n) v = ap suc (length-bytes n (v / 256))
+
+step : (i j : ℕ) → i + 1 + j ≡ i + suc j
+step i j = omega arith
+
+-- a number is where its bytes are
+pub number-same : (n : ℕ) (s t : List ℕ) (i k : ℕ) → ((j : ℕ) → j < n → byte s (i + j) ≡ byte t (k + j)) → number n s i ≡ number n t k
+unfolding number
+number-same zero s t i k same = refl
+number-same (suc n) s t i k same =
+    ap₂ (λ (b m : ℕ). b + 256 * m) (simp add-zero at (same 0 (omega arith)))
+    (number-same n s t (i + 1) (k + 1) (λ j h. rw (step i j, step k j) (same (suc j) (omega arith))))
+
+pub number-bytes : (n v : ℕ) → v < 256 ^ n → number n (bytes n v) 0 ≡ v
+unfolding number bytes
+number-bytes zero v h = omega arith
+number-bytes (suc n) v h =
+    let back : number n (bytes n (v / 256)) 0 ≡ v / 256 = let top : v < 256 * 256 ^ n = rw pow-succ' at h in number-bytes n (v / 256) (omega arith) in
+    let tail : number n (v % 256 ∷ bytes n (v / 256)) (0 + 1) ≡ number n (bytes n (v / 256)) 0 =
+    number-same n (v % 256 ∷ bytes n (v / 256)) (bytes n (v / 256)) 1 0 (λ j h. rw (one-add, zero-add)) in
+    omega arith
+
+pub number-below : (n : ℕ) (t : List ℕ) (i : ℕ) → AllBytes t → number n t i < 256 ^ n
+unfolding number
+number-below zero t i all = omega arith
+number-below (suc n) t i all = rw pow-succ' (omega (arith, all i, number-below n t (i + 1) all))
+
+-- the bytes of the number that stands somewhere are those that stand there
+pub bytes-number : (n : ℕ) (t : List ℕ) (i : ℕ) → AllBytes t → i + n ≤ length t → bytes n (number n t i) ≡ take n (drop i t)
+unfolding number bytes
+bytes-number zero t i all room = refl
+bytes-number (suc n) t i all room =
+    let low : (byte t i + 256 * number n t (i + 1)) % 256 ≡ byte t i = omega (arith, all i) in
+    let high : (byte t i + 256 * number n t (i + 1)) / 256 ≡ number n t (i + 1) = omega (arith, all i) in
+    rw (low, high, bytes-number n t (i + 1) all (omega arith), drop-cons t i 0 (omega arith), add-one)
+
+-- eight bytes are written as twice four
+pub halves-put : (l : List ℕ) (i v : ℕ) {m n : List ℕ} → m ≡ sets l i (bytes 4 v) → n ≡ sets m (i + 4) (bytes 4 (v / 256 / 256 / 256 / 256)) → n ≡ sets l i (bytes 8 v)
+unfolding bytes
+halves-put l i v p q = sets-then l i 4 (bytes 4 v) (bytes 4 (v / 256 / 256 / 256 / 256)) p q refl

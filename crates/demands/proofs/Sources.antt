@@ -1,0 +1,243 @@
+-- The sources of rows: document 02, A9. A result row carries the source of its own row of the table; and inputs that are the same but for sources are answered
+-- the same and leave bytes that are the same but for sources.
+use Prim.Native.Nat.{ℕ, zero, suc, _≤_, _<_}
+use native.Mathlib.Nat.{le-refl}
+use native.Mathlib.Omega.{arith}
+use native.Mathlib.Decide.{ℕ-discrete}
+use mathlib.Core.Path.{_≡_, refl, ap, sym, _∙_}
+use mathlib.Core.Bool.{Bool, true, false, cond}
+use mathlib.Core.Logic.{dite, _⊎_}
+use mathlib.Core.List.{List}
+use lib.ListN.{length, take}
+use lib.Seq.{sets, length-sets, getD-take}
+use Rattle.basis.specs.Reason.{first}
+use Rattle.basis.specs.Count.{anyBelow}
+use Rattle.basis.proofs.Pick.{pick-true, test-case}
+use Rattle.bytes.specs.Numbers.{byte, AllBytes}
+use Rattle.row.specs.Names.{HEADER, place}
+use Rattle.row.specs.Bytes.{sourceAt}
+use Rattle.row.proofs.Places.{header-below, room-in}
+use Rattle.row.proofs.Whole.{source-small}
+use Rattle.table.specs.declared.Verdict.{Verdict}
+use Rattle.table.specs.Refusals.{rows, refuse, accepted, checkRows}
+use Rattle.table.specs.Accepted.{Accepted}
+use Rattle.table.proofs.Heads.{good-head}
+use Rattle.table.proofs.Accepts.{accepted-gives}
+use Rattle.table.proofs.Faulty.{given-passes, given-refuses}
+use Rattle.term.specs.Leads.{LeadsBack}
+use Rattle.term.specs.Result.{touchedBy}
+use Rattle.term.specs.Bytes.{look}
+use Rattle.term.proofs.WellFormed.{formed-below}
+use Rattle.term.proofs.Touched.{is-touched}
+use Rattle.term.proofs.Accepted.{accepted-formed}
+use Rattle.term.proofs.Acceptable.{same-rows}
+use Rattle.term.proofs.Placed.{put-rows-source}
+use Rattle.judge.specs.Verdict.{isAccepted}
+use Rattle.judge.specs.Run.{roomReasons, runVerdict}
+use Rattle.judge.specs.Edit.{keptPart, otherHeader, otherSorts, keptWrong, keptVerdict, editReasons}
+use Rattle.judge.specs.Compare.{pairReasons, arrayReasons, arrayVerdict}
+use Rattle.judge.proofs.Granted.{EditReady, edit-ready, RunGranted, run-granted}
+use Rattle.simplify.specs.Answer.{answer}
+use Rattle.simplify.specs.Run.{freshRows, freshBytes, runAnswer, runResult}
+use Rattle.simplify.specs.Edit.{edited, editVerdict, editedRows, editedBytes, touchedRows, editAnswer, editTable, editKept}
+use Rattle.simplify.specs.Compare.{compareVerdict, freshRelation, compareAnswer, compareResult}
+use Rattle.simplify.proofs.Granted.{edit-granted, CompareGranted, compare-granted}
+use Rattle.demands.specs.Sources.{AlikeButSources, RowAlike}
+use Rattle.demands.proofs.Alike.{rows-alike, look-alike, head-alike, scan-alike, check-alike, modulus-alike, fresh-alike, part-alike, sets-alike, put-rows-alike, header-alike}
+use Rattle.demands.proofs.Demand1.{edit-counts-nothing}
+use Rattle.demands.proofs.Demand3.{run-leaves, edited-long, edited-head, edited-passes, table-left, kept-left}
+
+-- ---- a result row carries the source of its own row of the table
+
+pub run-carries : (t buffer : List ℕ) → AllBytes t → isAccepted (runVerdict t buffer) ≡ true → (x : ℕ) → x < rows t → sourceAt (runResult t buffer) x ≡ sourceAt t x
+unfolding freshBytes
+run-carries t buffer all granted x l =
+    let is : RunGranted t buffer = run-granted t buffer granted in
+    let ok : Accepted t = accepted-gives t (is .table) in
+    ap (λ (b : List ℕ). sourceAt b x) (run-leaves t buffer granted) ∙
+    put-rows-source (λ y. true) (freshRows t) (sourceAt t) (rows t) (sets buffer 0 (take HEADER t)) (rw (length-sets, ← ok .head .size) (is .roomy .room))
+    (λ y. source-small t y all) x l
+
+-- so does each row that an edit works out anew; the others keep all their bytes (Demand3's `others-stay`)
+module _ (t kept : List ℕ) (r : ℕ) (new : List ℕ) (all : AllBytes (editTable t kept r new)) (granted : isAccepted (editVerdict t kept r new) ≡ true) where
+  abbrev e : List ℕ
+  e = edited t r new
+
+  ok : Accepted e
+  ok = accepted-gives e (edited-passes t kept r new granted)
+
+  room : place (rows e) ≤ length kept
+  room = rw (← ok .head .size, edited-long t kept r new granted) (edit-granted t kept r new granted .ready .roomy .room)
+
+  pub edit-carries : (x : ℕ) → x < rows t → (x ≡ r) ⊎ LeadsBack (look (editTable t kept r new)) r x →
+      sourceAt (editKept t kept r new) x ≡ sourceAt (editTable t kept r new) x
+  unfolding editedBytes
+  edit-carries x l led =
+      let left : editTable t kept r new ≡ e = table-left t kept r new granted in
+      let led′ : (x ≡ r) ⊎ LeadsBack (look e) r x = rw left at led in
+      let all′ : AllBytes e = rw left at all in
+      ap (λ (b : List ℕ). sourceAt b x) (kept-left t kept r new granted) ∙
+      put-rows-source (touchedBy (look e) r) (editedRows e r kept) (sourceAt e) (rows e) kept room (λ y. source-small e y all′) x
+      (rw (same-rows e t (edited-head t kept r new granted)) l) ∙
+      pick-true (touchedBy (look e) r x) _ _ (is-touched (look e) r (formed-below _ (look e) (accepted-formed e ok)) x led′) ∙
+      ap (λ (b : List ℕ). sourceAt b x) (sym left)
+
+-- ---- inputs that are the same but for sources
+
+-- what is left, by one verdict
+left-alike : (v w : Verdict) {x y b c : List ℕ} → v ≡ w → (isAccepted v ≡ true → AlikeButSources x y) → AlikeButSources b c →
+    AlikeButSources (cond (isAccepted v) x b) (cond (isAccepted w) y c)
+left-alike v w same worked stayed =
+    rw (← same)
+    (test-case (isAccepted v) (λ (h : isAccepted v ≡ true). rw h (worked h)) (λ (h : isAccepted v ≡ false). rw h stayed))
+
+module _ (s t b c : List ℕ) (tables : AlikeButSources s t) (buffers : AlikeButSources b c) where
+  room-alike : roomReasons s b ≡ roomReasons t c
+  unfolding roomReasons
+  room-alike = rw (head-alike s t tables, tables .long, buffers .long)
+
+  verdict-alike : runVerdict s b ≡ runVerdict t c
+  unfolding runVerdict
+  verdict-alike = rw (room-alike, scan-alike s t tables accepted)
+
+  fresh-left : Accepted s → length s ≤ length b → AlikeButSources (freshBytes s b) (freshBytes t c)
+  unfolding freshBytes
+  fresh-left passed fits =
+      let long : HEADER ≤ length s = rw (passed .head .size) (header-below (rows s)) in
+      rw (← fresh-alike s t tables, ← rows-alike s t tables, ← tables .header)
+      (put-rows-alike (λ x. true) (freshRows s) (sourceAt s) (sourceAt t) (rows s) (sets b 0 (take HEADER s)) (sets c 0 (take HEADER s))
+      (rw (length-sets, ← passed .head .size) fits) (header-alike b c s long (omega arith) buffers))
+
+  pub run-answers-alike : runAnswer s b ≡ runAnswer t c
+  unfolding runAnswer
+  run-answers-alike = rw (verdict-alike, look-alike s t tables, fresh-alike s t tables, rows-alike s t tables)
+
+  pub run-leaves-alike : AlikeButSources (runResult s b) (runResult t c)
+  unfolding runResult
+  run-leaves-alike =
+      left-alike _ _ verdict-alike
+      (λ h. let is : RunGranted s b = run-granted s b h in fresh-left (accepted-gives s (is .table)) (is .roomy .room)) buffers
+
+  module _ (x y : ℕ) where
+    compared-alike : compareVerdict s b x y ≡ compareVerdict t c x y
+    unfolding compareVerdict pairReasons arrayVerdict arrayReasons
+    compared-alike = rw (room-alike, rows-alike s t tables, look-alike s t tables, scan-alike s t tables)
+
+    pub compare-answers-alike : compareAnswer s b x y ≡ compareAnswer t c x y
+    unfolding compareAnswer freshRelation
+    compare-answers-alike = rw (compared-alike, look-alike s t tables, fresh-alike s t tables, rows-alike s t tables, modulus-alike s t tables)
+
+    pub compare-leaves-alike : AlikeButSources (compareResult s b x y) (compareResult t c x y)
+    unfolding compareResult
+    compare-leaves-alike =
+        left-alike _ _ compared-alike
+        (λ h. let is : CompareGranted s b x y = compare-granted s b x y h in fresh-left (accepted-gives s (is .table)) (is .roomy .room)) buffers
+
+  -- the part of a kept result
+  kept-alike : AlikeButSources (keptPart s b) (keptPart t c)
+  unfolding keptPart
+  kept-alike = rw (← rows-alike s t tables) (part-alike b c buffers (place (rows s)) (header-below (rows s)))
+
+any-same : (test test′ : ℕ → Bool) (n : ℕ) → ((x : ℕ) → x < n → test x ≡ test′ x) → anyBelow test n ≡ anyBelow test′ n
+unfolding anyBelow
+any-same test test′ zero same = refl
+any-same test test′ (suc n) same = rw (any-same test test′ n (λ (x : ℕ) (l : x < n). same x (omega arith)), same n (le-refl (suc n)))
+
+headers-alike : (s t b c : List ℕ) → AlikeButSources s t → AlikeButSources b c → otherHeader s b ≡ otherHeader t c
+unfolding otherHeader
+headers-alike s t b c tables parts =
+    any-same _ _ HEADER (λ (i : ℕ) (l : i < HEADER). rw (first-bytes s t tables i l, first-bytes b c parts i l))
+  where
+    first-bytes : (l m : List ℕ) → AlikeButSources l m → (i : ℕ) → i < HEADER → byte l i ≡ byte m i
+    first-bytes l m same i h = sym (getD-take HEADER l i 0 h) ∙ ap (λ (k : List ℕ). byte k i) (same .header) ∙ getD-take HEADER m i 0 h
+
+module _ (t u kept held : List ℕ) (r : ℕ) (new brought : List ℕ)
+    (tables : AlikeButSources t u) (results : AlikeButSources kept held) (replacements : RowAlike new brought) where
+  numbers-alike : editReasons t kept r new ≡ editReasons u held r brought
+  unfolding editReasons
+  numbers-alike = rw (room-alike t u kept held tables results, rows-alike t u tables, replacements .long)
+
+  -- where none of 1 to 8 holds, the two edited tables
+  edited-alike : EditReady t kept r new → AlikeButSources (edited t r new) (edited u r brought)
+  unfolding edited
+  edited-alike ready = sets-alike t u r new brought (ready .long) (room-in t (ready .row) (good-head t (ready .roomy .head) .size)) tables replacements
+
+  kept-judged : EditReady t kept r new → keptVerdict (edited t r new) (keptPart t kept) ≡ keptVerdict (edited u r brought) (keptPart u held)
+  unfolding keptVerdict keptWrong otherSorts
+  kept-judged ready =
+      let edits = edited-alike ready in
+      let parts = kept-alike t u kept held tables results in
+      rw (
+        check-alike (keptPart t kept) (keptPart u held) parts,
+        headers-alike (edited t r new) (edited u r brought) (keptPart t kept) (keptPart u held) edits parts,
+        look-alike (keptPart t kept) (keptPart u held) parts,
+        look-alike (edited t r new) (edited u r brought) edits,
+        rows-alike (edited t r new) (edited u r brought) edits,
+      )
+
+  edit-judged : editVerdict t kept r new ≡ editVerdict u held r brought
+  unfolding editVerdict
+  edit-judged =
+      let numbers : first (editReasons t kept r new) ≡ first (editReasons u held r brought) = ap first numbers-alike in
+      dite (ℕ-discrete (first (editReasons t kept r new)) 0)
+      (λ (z : first (editReasons t kept r new) ≡ 0).
+      let ready : EditReady t kept r new = edit-ready t kept r new z in
+      given-passes _ 0 _ z ∙
+      scan-alike (edited t r new) (edited u r brought) (edited-alike ready) (keptVerdict (edited t r new) (keptPart t kept)) ∙
+      ap (checkRows (edited u r brought)) (kept-judged ready) ∙
+      sym (given-passes _ 0 _ (sym numbers ∙ z)))
+      (λ (n : first (editReasons t kept r new) ≡ 0 → ⊥).
+      given-refuses _ 0 _ n ∙ ap (λ (k : ℕ). refuse k 0) numbers ∙ sym (given-refuses _ 0 _ (λ z. n (numbers ∙ z))))
+
+  edited-rows-alike : EditReady t kept r new → editedRows (edited t r new) r kept ≡ editedRows (edited u r brought) r held
+  unfolding editedRows
+  edited-rows-alike ready =
+      let edits = edited-alike ready in
+      let parts = kept-alike (edited t r new) (edited u r brought) kept held edits results in
+      rw (
+        modulus-alike (edited t r new) (edited u r brought) edits,
+        look-alike (edited t r new) (edited u r brought) edits,
+        look-alike (keptPart (edited t r new) kept) (keptPart (edited u r brought) held) parts,
+      )
+
+  counts : EditReady t kept r new → editAnswer t kept r new ≡ editAnswer u held r brought
+  unfolding editAnswer touchedRows
+  counts ready =
+      let edits = edited-alike ready in
+      rw (
+        edit-judged,
+        edited-rows-alike ready,
+        look-alike (edited t r new) (edited u r brought) edits,
+        rows-alike t u tables,
+        rows-alike (edited t r new) (edited u r brought) edits,
+      )
+
+  pub edit-answers-alike : editAnswer t kept r new ≡ editAnswer u held r brought
+  edit-answers-alike =
+      test-case (isAccepted (editVerdict t kept r new))
+      (λ (h : isAccepted (editVerdict t kept r new) ≡ true). counts (edit-granted t kept r new h .ready))
+      (λ (h : isAccepted (editVerdict t kept r new) ≡ false).
+      edit-counts-nothing t kept r new h ∙ ap (λ (v : Verdict). answer (v .number) (v .row) 0 0) edit-judged ∙
+      sym (edit-counts-nothing u held r brought (ap isAccepted (sym edit-judged) ∙ h)))
+
+  pub edit-table-alike : AlikeButSources (editTable t kept r new) (editTable u held r brought)
+  unfolding editTable
+  edit-table-alike = left-alike _ _ edit-judged (λ h. edited-alike (edit-granted t kept r new h .ready)) tables
+
+  rows-put : isAccepted (editVerdict t kept r new) ≡ true → AlikeButSources (editedBytes (edited t r new) r kept) (editedBytes (edited u r brought) r held)
+  unfolding editedBytes
+  rows-put h =
+      let ready : EditReady t kept r new = edit-granted t kept r new h .ready in
+      let edits = edited-alike ready in
+      let passed : Accepted (edited t r new) = accepted-gives (edited t r new) (edited-passes t kept r new h) in
+      rw (
+        ← edited-rows-alike ready,
+        ← look-alike (edited t r new) (edited u r brought) edits,
+        ← rows-alike (edited t r new) (edited u r brought) edits,
+      )
+      (put-rows-alike (touchedBy (look (edited t r new)) r) (editedRows (edited t r new) r kept) (sourceAt (edited t r new)) (sourceAt (edited u r brought))
+      (rows (edited t r new)) kept held (rw (← passed .head .size, edited-long t kept r new h) (ready .roomy .room)) results)
+
+  pub edit-kept-alike : AlikeButSources (editKept t kept r new) (editKept u held r brought)
+  unfolding editKept
+  edit-kept-alike = left-alike _ _ edit-judged rows-put results

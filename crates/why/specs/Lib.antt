@@ -1,2 +1,0 @@
--- What the contracts of this program say.
-pub mod Argument
