@@ -19,7 +19,9 @@ moved-requires : tie.Need-moved-requires
 moved-requires c κs = search difference-moves
 
 returns : tie.Need-returns
-returns c = cc
+returns c =
+    rw (c .before .sum .ensures, c .before .before .negation .ensures, c .before .before .before .load2 .ensures, c .before .before .before .before .load .ensures)
+    at (c .moved .ensures)
 
 pub difference-range-spec : {M : Type 1} → statement M
 difference-range-spec =

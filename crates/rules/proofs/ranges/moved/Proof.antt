@@ -10,7 +10,7 @@ sum-requires : tie.Need-sum-requires
 sum-requires c κs = search (needs, point-known)
 
 returns : tie.Need-returns
-returns c = cc
+returns c = rw (c .before .of-word .ensures) at (c .sum .ensures)
 
 pub moved-spec : {M : Type 1} → statement M
 moved-spec = tie.close (tie.spec of-word-requires sum-requires returns)

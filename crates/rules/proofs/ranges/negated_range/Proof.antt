@@ -16,7 +16,7 @@ sum-requires : tie.Need-sum-requires
 sum-requires c κs = search (needs, point-known, kept-known, negation-known)
 
 returns : tie.Need-returns
-returns c = cc
+returns c = rw (c .before .of-word .ensures, c .before .before .negation .ensures, c .before .before .before .load .ensures) at (c .sum .ensures)
 
 pub negated-range-spec : {M : Type 1} → statement M
 negated-range-spec =

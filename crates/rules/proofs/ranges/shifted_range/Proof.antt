@@ -10,7 +10,7 @@ moved-requires : tie.Need-moved-requires
 moved-requires c κs = search (needs, kept-known)
 
 returns : tie.Need-returns
-returns c = cc
+returns c = rw (c .before .load .ensures) at (c .moved .ensures)
 
 pub shifted-range-spec : {M : Type 1} → statement M
 shifted-range-spec = tie.close (tie.spec load-requires moved-requires returns)

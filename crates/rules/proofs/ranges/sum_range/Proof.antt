@@ -16,7 +16,7 @@ moved-requires : tie.Need-moved-requires
 moved-requires c κs = search (needs, kept-known, sum-known)
 
 returns : tie.Need-returns
-returns c = cc
+returns c = rw (c .before .sum .ensures, c .before .before .load2 .ensures, c .before .before .before .load .ensures) at (c .moved .ensures)
 
 pub sum-range-spec : {M : Type 1} → statement M
 sum-range-spec =

@@ -9,7 +9,7 @@ add-requires : tie.Need-add-requires
 add-requires c κs = search needs
 
 returns : tie.Need-returns
-returns c = cc
+returns c = rw (c .before .sub .ensures) at (c .add .ensures)
 
 pub difference-spec : {M : Type 1} → statement M
 difference-spec = tie.close (tie.spec sub-requires add-requires returns)
