@@ -10,6 +10,10 @@ use lib.Seq.{sets, drop-cons}
 use Rattle.basis.proofs.Sets.{sets-then}
 use Rattle.bytes.specs.Numbers.{byte, number, bytes, AllBytes}
 
+-- a byte, wherever it stands, is a word
+pub byte-fits : (t : List ℕ) → AllBytes t → (i : ℕ) → byte t i < 2 ^ 64
+byte-fits t all i = omega (arith, all i)
+
 pub number-four : (t : List ℕ) (i : ℕ) → number 4 t i ≡ byte t i + 256 * (byte t (i + 1) + 256 * (byte t (i + 2) + 256 * byte t (i + 3)))
 unfolding number
 number-four t i = simp add-assoc (omega arith)

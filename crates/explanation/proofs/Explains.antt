@@ -133,8 +133,8 @@ module _ (t buffer : List ℕ) (x : ℕ) (can : Explainable t buffer x) where
 
       -- the old bytes are put back where the list does not fit
       module _ (room : List ℕ) {saved : List ℕ} (roomy : length room ≡ LARGEST) (kept-bytes : saved ≡ sets room 0 (take (length t) (drop 0 buffer))) where
-        pub explain-back : Rooms saved 0 (length t) left 0
-        explain-back =
+        pub explain-back : {count : ℕ} → count ≤ length t → Rooms saved 0 count left 0
+        explain-back few =
             let saved-long : length saved ≡ LARGEST = ap length kept-bytes ∙ length-sets room 0 (take (length t) (drop 0 buffer)) ∙ roomy in
             record { source = omega (arith, saved-long, small); target = omega (arith, long, can .room) }
 

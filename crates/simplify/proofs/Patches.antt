@@ -1,6 +1,6 @@
 -- The rows that an edit works out anew: what the loop asks, and that what it leaves is what the public promise says.
 use Prim.Native.Nat.{ℕ, _^_, _≤_, _<_}
-use native.Mathlib.Nat.{le-refl, lt-trans}
+use native.Mathlib.Nat.{le-refl, le-trans, lt-trans, lt-of-lt-of-le}
 use mathlib.Core.Path.{_≡_, refl, ap, ap₂, sym, subst, _∙_}
 use mathlib.Core.Bool.{Bool, true, false, Bool·beq, not, _||_, true≢false}
 use mathlib.Core.List.{List}
@@ -11,7 +11,7 @@ use Rattle.basis.proofs.Pick.{or-left, or-right}
 use Rattle.basis.proofs.Counts.{any-none}
 use Rattle.row.specs.Names.{HEADER, place}
 use Rattle.bytes.specs.Numbers.{byte, Read}
-use Rattle.row.proofs.Places.{header-below}
+use Rattle.row.proofs.Places.{header-below, place-grows}
 use Rattle.table.specs.Refusals.{width, rows, checkTable}
 use Rattle.table.specs.Accepted.{Accepted}
 use Rattle.table.proofs.Accepts.{accepted-gives}
@@ -107,8 +107,24 @@ module _ (t kept : List ℕ) (r : ℕ) (can : CanPatch t kept r) where
             kept-sort = λ x l e. ap isArray (part-look x l) ∙ same-sorts x l;
           }
 
-      pub patch-asks : (store : List ℕ) → length store ≡ 2048 → CanRenew t kept store marks w n
-      patch-asks store long = rw (width-is .is, rows-is .is) (asked store long)
+      -- of all rows, or of fewer
+      pub patch-asks : (store : List ℕ) → length store ≡ 2048 → {some : ℕ} → some ≤ n → CanRenew t kept store marks w some
+      patch-asks store long fewer =
+          let all : CanRenew t kept store marks w n = rw (width-is .is, rows-is .is) (asked store long) in
+          record {
+            width = all .width;
+            few = le-trans fewer (all .few);
+            store-long = all .store-long;
+            table-room = le-trans (place-grows fewer) (all .table-room);
+            room = le-trans (place-grows fewer) (all .room);
+            fits = all .fits;
+            names = all .names;
+            sorts = all .sorts;
+            kept-fits = λ x l. all .kept-fits x (lt-of-lt-of-le l fewer);
+            kept-names = λ x l. all .kept-names x (lt-of-lt-of-le l fewer);
+            kept-sorts = λ x l. all .kept-sorts x (lt-of-lt-of-le l fewer);
+            kept-sort = λ x l. all .kept-sort x (lt-of-lt-of-le l fewer);
+          }
 
       finish : {R S : List ℕ} {removed : ℕ} (store : List ℕ) → length store ≡ 2048 → Renewed t kept marks (width t) (rows t) R S removed →
           (R ≡ editedBytes t r kept) × (removed ≡ removedRows (look t) (editedRows t r kept) (rows t))

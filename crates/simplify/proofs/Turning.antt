@@ -62,17 +62,18 @@ module _ (T R S marks : List ℕ) (w r : ℕ) (can : CanTurn T R S marks w r) wh
   pub turn-asks : {b : Bool} → b ≡ marked marks r → CanWrite T R S w r b
   turn-asks e = rw e (can .can)
 
-  module _ {b : Bool} (mark : b ≡ marked marks r) {R′ S′ : List ℕ} (done : Written T R R′ S S′ w LIMIT r b) where
-    pub turn-both : Both T R′ r
-    unfolding settled
-    turn-both =
-        record {
-          here = can .can .table-room;
-          there = rw (ap length (done .result) ∙ length-put-if R r _ _ b) (can .can .room);
-        }
+  -- whatever the limit
+  pub turn-both : {b : Bool} {R′ S′ : List ℕ} {limit : ℕ} → Written T R R′ S S′ w limit r b → Both T R′ r
+  unfolding settled
+  turn-both {b} done =
+      record {
+        here = can .can .table-room;
+        there = rw (ap length (done .result) ∙ length-put-if R r _ _ b) (can .can .room);
+      }
 
-    pub turn-done : {c : Bool} {one : ℕ} → c ≡ (isRead (look T r) && not (isRead (look R′ r))) → one ≡ cond c 1 0 → Turned T R R′ S S′ marks w r one
-    turn-done e f = record { written = rw mark at done; counts = f ∙ ap (λ (d : Bool). cond d 1 0) e }
+  pub turn-done : {b : Bool} → b ≡ marked marks r → {R′ S′ : List ℕ} → Written T R R′ S S′ w LIMIT r b →
+      {c : Bool} {one : ℕ} → c ≡ (isRead (look T r) && not (isRead (look R′ r))) → one ≡ cond c 1 0 → Turned T R R′ S S′ marks w r one
+  turn-done mark done e f = record { written = rw mark at done; counts = f ∙ ap (λ (d : Bool). cond d 1 0) e }
 
 -- ---- the loop
 

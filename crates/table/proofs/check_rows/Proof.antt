@@ -44,7 +44,7 @@ not-below-requires c κs = search needs
 
 wrong-sort-requires : tie.Need-wrong-sort-requires Inv-loop μ-loop Inv-rows μ-rows
 wrong-sort-requires c κs =
-    named-asked _ _ _ _ _ _ _ _ (c .before .before .before .loop .inv) (c .before .before .loop-test .taken) (c .before .not-below .ensures) (c .if3 .left)
+    named-asked _ _ _ _ _ _ _ _ (c .before .before .before .loop .inv) (omega arith) (c .before .not-below .ensures) (c .if3 .left)
 
 add-f : tie.Need-add-f Inv-loop μ-loop Inv-rows μ-rows
 add-f c = omega arith
@@ -54,7 +54,7 @@ loop-less c = omega arith
 
 loop-again : tie.Need-loop-again Inv-loop μ-loop Inv-rows μ-rows
 loop-again c =
-    looked _ _ _ _ _ _ _ _ (c .before .before .before .before .loop .inv) (c .before .before .before .loop-test .taken) (c .before .before .not-below .ensures) (c .before .if3 .left) (c .wrong-sort .ensures)
+    looked _ _ _ _ _ _ _ _ (c .before .before .before .before .loop .inv) (omega arith) (c .before .before .not-below .ensures) (c .before .if3 .left) (c .wrong-sort .ensures)
 
 bounds-crossed-requires : tie.Need-bounds-crossed-requires Inv-loop μ-loop Inv-rows μ-rows
 bounds-crossed-requires c κs = tt

@@ -1,6 +1,7 @@
 use Prim.Native.Nat.{ℕ}
 use lib.ListN.{replicate, length-replicate}
 use borrow.Author.Needs.{needs}
+use native.Mathlib.Omega.{arith}
 use Rattle.table.specs.Refusals.{LARGEST}
 use Rattle.explanation.proofs.Explains.{explain-saves, explain-lists, explain-back, explain-short, explain-header, explain-fits}
 use Rattle.explanation.proofs.explaining.explain.Statement.{statement}
@@ -25,7 +26,7 @@ slice-aggregate-copy-2 : tie.Need-slice-aggregate-copy-2
 slice-aggregate-copy-2 c = search needs
 
 copy-requires-2 : tie.Need-copy-requires-2
-copy-requires-2 c κs = explain-back _ _ _ (c .before .before .before .before .before .before .before .before .before .before .before .before .before .before .before .before .before .before .before .before .pre) (c .before .before .before .before .before .before .before .before .before .before .fresh .ensures) (c .before .before .before .before .put-list .ensures) (replicate LARGEST 0) (length-replicate {A = ℕ} LARGEST 0) (c .before .before .before .before .before .before .before .before .before .before .before .before .before .before .copy .ensures)
+copy-requires-2 c κs = explain-back _ _ _ (c .before .before .before .before .before .before .before .before .before .before .before .before .before .before .before .before .before .before .before .before .pre) (c .before .before .before .before .before .before .before .before .before .before .fresh .ensures) (c .before .before .before .before .put-list .ensures) (replicate LARGEST 0) (length-replicate {A = ℕ} LARGEST 0) (c .before .before .before .before .before .before .before .before .before .before .before .before .before .before .copy .ensures) (omega arith)
 
 not-listed-requires : tie.Need-not-listed-requires
 not-listed-requires c κs = search needs

@@ -2,6 +2,7 @@ use Prim.Native.Nat.{ℕ}
 use lib.ListN.{replicate, length-replicate}
 use Rattle.simplify.proofs.Patches.{patch-header, patch-marks, patch-asks, patch-done}
 use borrow.Author.Needs.{needs}
+use native.Mathlib.Omega.{arith}
 use Rattle.simplify.proofs.editing.patch.Statement.{statement}
 use Rattle.simplify.proofs.editing.patch.Tie as tie
 
@@ -15,7 +16,7 @@ width-of-requires : tie.Need-width-of-requires
 width-of-requires c κs = search patch-header
 
 renew-requires : tie.Need-renew-requires
-renew-requires c κs = patch-asks _ _ _ (c .before .before .before .before .before .before .before .before .before .pre) (c .before .before .before .before .before .before .rows-of .ensures) (c .before .before .before .before .mark-touched .ensures) (c .width-of .ensures) _ (length-replicate {A = ℕ} 2048 0)
+renew-requires c κs = patch-asks _ _ _ (c .before .before .before .before .before .before .before .before .before .pre) (c .before .before .before .before .before .before .rows-of .ensures) (c .before .before .before .before .mark-touched .ensures) (c .width-of .ensures) _ (length-replicate {A = ℕ} 2048 0) (omega arith)
 
 same-length : tie.Need-same-length
 same-length c = search needs

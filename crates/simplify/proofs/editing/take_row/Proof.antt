@@ -10,6 +10,7 @@ unfolding place
 place-requires c κs = omega arith
 
 copy-requires : tie.Need-copy-requires
+unfolding place
 copy-requires c κs = search needs
 
 same-length : tie.Need-same-length
