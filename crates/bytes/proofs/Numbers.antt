@@ -1,10 +1,10 @@
 -- Numbers and their bytes: what the code reads and writes piece by piece, and that either gives back the other.
 use Prim.Native.Nat.{ℕ, zero, suc, _+_, _*_, _/_, _%_, _^_, _<_, _≤_}
-use native.Mathlib.Nat.{add-assoc, add-zero, pow-succ', zero-add}
+use native.Mathlib.Nat.{add-assoc, add-zero, pow-succ', zero-add, suc-add}
 use native.Mathlib.Numerals.{add-one, one-add}
 use native.Mathlib.Omega.{arith}
 use mathlib.Core.Path.{_≡_, refl, ap, ap₂}
-use mathlib.Core.List.{List, _∷_}
+use mathlib.Core.List.{List, _∷_, _++_}
 use lib.ListN.{length, take, drop}
 use lib.Seq.{sets, drop-cons}
 use Rattle.basis.proofs.Sets.{sets-then}
@@ -61,7 +61,16 @@ bytes-number (suc n) t i all room =
     let high : (byte t i + 256 * number n t (i + 1)) / 256 ≡ number n t (i + 1) = omega (arith, all i) in
     rw (low, high, bytes-number n t (i + 1) all (omega arith), drop-cons t i 0 (omega arith), add-one)
 
--- eight bytes are written as twice four
-pub halves-put : (l : List ℕ) (i v : ℕ) {m n : List ℕ} → m ≡ sets l i (bytes 4 v) → n ≡ sets m (i + 4) (bytes 4 (v / 256 / 256 / 256 / 256)) → n ≡ sets l i (bytes 8 v)
-unfolding bytes
-halves-put l i v p q = sets-then l i 4 (bytes 4 v) (bytes 4 (v / 256 / 256 / 256 / 256)) p q refl
+-- what is left of a number behind its n lowest bytes
+unfoldable pub behind : ℕ → ℕ → ℕ
+behind zero v = v
+behind (suc n) v = behind n (v / 256)
+
+bytes-parts : (m n v : ℕ) → bytes (m + n) v ≡ bytes m v ++ bytes n (behind m v)
+unfolding bytes behind
+bytes-parts zero n v = rw zero-add
+bytes-parts (suc m) n v = rw suc-add (ap (λ (l : List ℕ). v % 256 ∷ l) (bytes-parts m n (v / 256)))
+
+-- a number is written in two parts, the lower first
+pub parts-put : (m n : ℕ) (l : List ℕ) (i v : ℕ) {p q : List ℕ} → p ≡ sets l i (bytes m v) → q ≡ sets p (i + m) (bytes n (behind m v)) → q ≡ sets l i (bytes (m + n) v)
+parts-put m n l i v first second = rw (bytes-parts m n v) (sets-then l i m (bytes m v) (bytes n (behind m v)) first second (length-bytes m v))

@@ -51,10 +51,8 @@ pub fn put_four(t: &mut [u8], i: usize, v: u64)
     requires { ⌜ i + 4 ≤ length (now t) ⌝ }
     ensures { λ _. ⌜ now (t .exit) ≡ sets (now (t .entry)) i (bytes 4 v) ⌝ }
 {
-    t[i] = (v % 256) as u8;
-    t[i + 1] = (v / 256 % 256) as u8;
-    t[i + 2] = (v / 256 / 256 % 256) as u8;
-    t[i + 3] = (v / 256 / 256 / 256 % 256) as u8;
+    put_two(t, i, v as usize);
+    put_two(t, i + 2, (v / 256 / 256) as usize);
 }
 
 // Writes the eight bytes of v from i on.

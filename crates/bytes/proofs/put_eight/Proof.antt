@@ -1,5 +1,5 @@
 use borrow.Author.Needs.{needs}
-use Rattle.bytes.proofs.Numbers.{halves-put}
+use Rattle.bytes.proofs.Numbers.{behind, parts-put}
 use Rattle.bytes.proofs.put_eight.Statement.{statement}
 use Rattle.bytes.proofs.put_eight.Tie as tie
 
@@ -16,7 +16,8 @@ same-length : tie.Need-same-length
 same-length c = search needs
 
 returns : tie.Need-returns
-returns c = search halves-put
+unfolding behind
+returns c = search (parts-put 4 4)
 
 pub put-eight-spec : {M : Type 1} → statement M
 put-eight-spec =
