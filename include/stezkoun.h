@@ -9,6 +9,14 @@
  * the instruction number of its row in the table. Any such number will do: it is carried, and
  * listed by stezkoun_why, and has no other influence.
  *
+ * Field a of a VAR row (kind 2) is a name, 0 to 65535, and no reference. With the name 0 the row is
+ * a variable of its own. All VAR rows of a table with one other name are one variable and must state
+ * the same bounds k and h; in the result the first of them stays, and each later one is SHIFT of the
+ * first by 0.
+ *
+ * A row leads back to the rows that it refers to, a later VAR row to the first of its name, and each
+ * to whatever those lead back to.
+ *
  * Lending. Every buffer belongs to the caller; nothing is kept, allocated or freed, and nothing
  * outside the given lengths is read or written. Within one call the lent buffers must not
  * overlap. A pointer must not be null, not even with length 0. Any bytes may be lent: what is
@@ -30,8 +38,8 @@ extern "C" {
 
 /*
  * Refusals, in the order in which they are looked for: 1 to 8; then the rows ascending, each
- * 9 to 15, the first faulty row ending the search; then 16, 17, 22. Of 9 to 15 the answer's row
- * is the faulty row and of 17 the row that was named; of all others it is 0.
+ * 9 to 15 and 18, the first faulty row ending the search; then 16, 17, 22. Of 9 to 15 and 18 the
+ * answer's row is the faulty row and of 17 the row that was named; of all others it is 0.
  */
 enum stezkoun_refusal {
     STEZKOUN_ACCEPTED = 0,
@@ -55,6 +63,7 @@ enum stezkoun_refusal {
                                         with an array where the edited table has a word, or the
                                         reverse */
     STEZKOUN_NOT_A_READ = 17,        /* a row named to stezkoun_why is not a READ */
+    STEZKOUN_OTHER_BOUNDS = 18,      /* VAR with other k or h than the first row of its name */
     STEZKOUN_LIST_TOO_SHORT = 22     /* space for the list shorter than the list */
 };
 
@@ -70,17 +79,19 @@ struct stezkoun_listing { struct stezkoun_answer answer; uint64_t length; };
 
 /*
  * Simplifies the table into the first table_len bytes of result; later bytes stay. Touched is n.
- * Gives refusals 1 to 6 and 9 to 15.
+ * Gives refusals 1 to 6, 9 to 15 and 18.
  */
 struct stezkoun_answer stezkoun_run(const uint8_t *table, size_t table_len,
                                     uint8_t *result, size_t result_len);
 
 /*
  * Puts the replacement in the place of one row of the table, and works out anew, in the kept
- * result, that row and the rows that lead back to it through references, each with the
- * instruction number of its row in the edited table; all else stays, numbers among it. With
+ * result, that row and the rows that lead back to it in the table as it stood or as it stands now,
+ * each with the instruction number of its row in the edited table; all else stays, numbers among
+ * it. The row that stood there before may be malformed: it has a name if its kind byte is 2. With
  * the table's own kept result the outcome is that of a fresh run of the edited table. Refusals
- * 9 to 15 are judged on the table with the replacement in place. Gives refusals 1 to 16.
+ * 9 to 15 and 18 are judged on the table with the replacement in place. Gives refusals 1 to 16 and
+ * 18.
  */
 struct stezkoun_answer stezkoun_edit(uint8_t *table, size_t table_len,
                                      uint8_t *kept, size_t kept_len,
@@ -89,7 +100,7 @@ struct stezkoun_answer stezkoun_edit(uint8_t *table, size_t table_len,
 
 /*
  * Simplifies as stezkoun_run does, then says of two word rows whether they are the same in every
- * case, apart in every case, or not known to be either. Gives refusals 1 to 7 and 9 to 15; 14
+ * case, apart in every case, or not known to be either. Gives refusals 1 to 7, 9 to 15 and 18; 14
  * also, after all faults of rows, for a number that names an array row, its row being that
  * number and the first number coming first.
  */
@@ -102,8 +113,8 @@ struct stezkoun_comparison stezkoun_compare(const uint8_t *table, size_t table_l
  * that was compared, nearest first, with its instruction number and the reason, then where the
  * read ended. The lines are text without a zero byte at the end (docs/WHY.md), at most 256 bytes
  * for each store compared and 256 more; they take the first length bytes of list, and later bytes
- * stay. Gives refusals 1 to 7 and 9 to 15, then 17 and 22. On 22 length says how much to lend; on
- * all others it is 0.
+ * stay. Gives refusals 1 to 7, 9 to 15 and 18, then 17 and 22. On 22 length says how much to lend;
+ * on all others it is 0.
  */
 struct stezkoun_listing stezkoun_why(const uint8_t *table, size_t table_len,
                                      uint8_t *result, size_t result_len,

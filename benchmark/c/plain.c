@@ -22,6 +22,9 @@ struct state {
     struct known known[MOST_ROWS];
 };
 
+/* The first rows of names, in a chain for each name modulo 256; one more than their numbers. */
+struct names { uint16_t heads[256], next[MOST_ROWS]; };
+
 /* Written out, so that the compiler sees one load or store. */
 static uint16_t get16(const uint8_t *p) { return (uint16_t)(p[0] | p[1] << 8); }
 
@@ -61,7 +64,9 @@ static void encode(uint8_t *p, struct row r, uint32_t source) {
 
 static int is_array(uint8_t kind) { return kind >= FRESH; }
 
-/* For each kind how many references it uses and whether k and h; a of READ and WRITE is an array. */
+/* For each kind how many of a, b, c it uses, how many of these are references (a of VAR is a name)
+   and whether it uses k and h; a of READ and WRITE is an array. */
+static const uint8_t uses[10] = { 0, 0, 1, 1, 2, 2, 1, 2, 0, 3 };
 static const uint8_t references[10] = { 0, 0, 0, 1, 2, 2, 1, 2, 0, 3 };
 static const uint8_t uses_k[10] = { 0, 1, 1, 1, 1, 1, 1, 0, 0, 0 };
 static const uint8_t uses_h[10] = { 0, 0, 1, 0, 0, 0, 0, 0, 0, 0 };
@@ -71,7 +76,7 @@ static uint64_t row_fault(const struct row *rows, unsigned i, const uint8_t *p, 
     uint16_t named[3] = { r.a, r.b, r.c };
     if (p[0] != 0x52 || p[1] != 0x4f || p[3] != 0) return 9;
     if (r.kind < CONST || r.kind > WRITE) return 10;
-    for (int j = references[r.kind]; j < 3; j++) if (named[j] != 0) return 11;
+    for (int j = uses[r.kind]; j < 3; j++) if (named[j] != 0) return 11;
     if ((!uses_k[r.kind] && r.k != 0) || (!uses_h[r.kind] && r.h != 0)) return 11;
     if (r.k > largest || r.h > largest) return 12;
     for (int j = 0; j < references[r.kind]; j++) if (named[j] >= i) return 13;
@@ -81,6 +86,17 @@ static uint64_t row_fault(const struct row *rows, unsigned i, const uint8_t *p, 
     }
     if (r.kind == VAR && r.k > r.h) return 15;
     return 0;
+}
+
+/* The first row of the name of row i, which it becomes where there is none. */
+static unsigned first_of_name(struct names *names, const struct row *rows, unsigned i) {
+    uint16_t *link = &names->heads[rows[i].a % 256];
+    for (; *link != 0; link = &names->next[*link - 1]) {
+        if (rows[*link - 1].a == rows[i].a) return *link - 1u;
+    }
+    *link = (uint16_t)(i + 1);
+    names->next[i] = 0;
+    return i;
 }
 
 static struct row word(uint8_t kind, uint16_t a, uint16_t b, uint64_t k) {
@@ -218,6 +234,7 @@ static struct plain_answer refused(uint64_t number, uint64_t row) {
 struct plain_answer plain_run(const uint8_t *table, size_t table_len,
                               uint8_t *result, size_t result_len) {
     struct state s;
+    struct names names;
     if (table_len < HEADER) return refused(1, 0);
     if (table[0] != 0x46 || table[1] != 0x54 || table[3] != 0) return refused(2, 0);
     if (table[2] == 0 || table[2] > 64) return refused(3, 0);
@@ -226,11 +243,17 @@ struct plain_answer plain_run(const uint8_t *table, size_t table_len,
     if (table_len != HEADER + (size_t)ROW * n) return refused(5, 0);
     if (result_len < table_len) return refused(6, 0);
     s.largest = UINT64_MAX >> (64 - table[2]);
+    memset(names.heads, 0, sizeof names.heads);
     for (unsigned i = 0; i < n; i++) {
         const uint8_t *p = table + HEADER + ROW * i;
         s.rows[i] = decode(p);
         uint64_t fault = row_fault(s.rows, i, p, s.largest);
         if (fault != 0) return refused(fault, i);
+        if (s.rows[i].kind != VAR || s.rows[i].a == 0) continue;
+        unsigned first = first_of_name(&names, s.rows, i);
+        if (first == i) continue;
+        if (s.rows[i].k != s.rows[first].k || s.rows[i].h != s.rows[first].h) return refused(18, i);
+        s.rows[i] = word(SHIFT, (uint16_t)first, 0, 0);
     }
     uint64_t removed = 0;
     memcpy(result, table, HEADER);

@@ -8,6 +8,10 @@ use tables::{chain, machine, wellformed};
 
 pub const SIZES: [usize; 4] = [16, 64, 256, 1024];
 
+/// How many names the thousand variables of a table have: none; few; as many as there are slots for
+/// the library's first look; so many that it must search for most.
+pub const NAMES: [usize; 4] = [0, 16, 256, 1000];
+
 #[derive(Clone, Copy)]
 pub enum Family {
     Stack,
@@ -29,7 +33,13 @@ impl Family {
     pub fn rows(self, width: Width, count: usize) -> Vec<Row> {
         let mut random = Random::new(7);
         let mut machine = |heap, pointers_one_in| {
-            let habits = machine::Habits { heap, pointers_one_in, careless: false };
+            let habits = machine::Habits {
+                heap,
+                pointers_one_in,
+                re_entries_one_in: 0,
+                names: [0, 0],
+                careless: false,
+            };
             machine::rows(&mut random, width, count, habits)
         };
         match self {
@@ -67,6 +77,22 @@ impl Subject {
         Subject::of(width, wellformed::rows(&mut Random::new(seed), width, 1024))
     }
 
+    /// A thousand variables that have this many names in turn, or none, then sums and differences of
+    /// them, a store and a read.
+    pub fn named(names: usize) -> Subject {
+        let width = Width::new(32).expect("a width");
+        let name = |row: usize| if names == 0 { 0 } else { (1 + row % names) as u16 };
+        let mut rows: Vec<Row> =
+            (0..1000).map(|row| Row::Var { name: name(row), low: 1, high: 1 << 20 }).collect();
+        rows.extend((0..11).flat_map(|row| {
+            let (a, b, k) = (row, 999 - 31 * row, 4);
+            [Row::Sum { a, b, k }, Row::Diff { a: b, b: a, k }]
+        }));
+        let array = rows.len();
+        rows.extend([Row::Fresh, Row::Read { array, index: 999 }]);
+        Subject::of(width, rows)
+    }
+
     fn of(width: Width, rows: Vec<Row>) -> Subject {
         let sources = sources(&mut Random::new(rows.len() as u64), rows.len());
         let table = table_bytes(width, &rows, &sources);
@@ -81,12 +107,16 @@ impl Subject {
         Edit { name, row: row as u64, replacements }
     }
 
-    /// The first row moves everything, a SHIFT in the middle what follows it, the last itself.
+    /// The first row moves everything, or what has its name, a SHIFT in the middle what follows it,
+    /// the last itself.
     pub fn edits(&self) -> Vec<Edit> {
         let mut edits = Vec::new();
         match self.rows[0] {
-            Row::Var { low, high } if low < high => {
-                edits.push(self.edit("edit first", 0, Row::Var { low: low + 1, high }));
+            Row::Var { name: 0, low, high } if low < high => {
+                edits.push(self.edit("edit first", 0, Row::Var { name: 0, low: low + 1, high }));
+            }
+            Row::Var { name: 1.., low, high } => {
+                edits.push(self.edit("edit first", 0, Row::Var { name: 0, low, high }));
             }
             _ => {}
         }

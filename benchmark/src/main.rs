@@ -5,7 +5,7 @@ mod families;
 mod plain;
 mod timing;
 
-use families::{Edit, Family, Subject, SIZES};
+use families::{Edit, Family, Subject, NAMES, SIZES};
 use second::text::LONGEST_LIST;
 use std::hint::black_box;
 use stezkoun::numbers;
@@ -97,7 +97,15 @@ fn check(subject: &Subject) {
     assert!(list.starts_with(expected.as_bytes()), "a wrong list");
 }
 
-/// One line; `before` is the library's figure at a quarter of the rows.
+fn head(title: &str, first: &str, last: &str) {
+    println!("\n{title}");
+    println!(
+        "  {first:<12} {:>5} {:>12} {:>12} {:>6} {:>12} {:>6} {:>10} {last:>8}",
+        "rows", "library", "second", "ratio", "plain C", "ratio", "Mrows/s"
+    );
+}
+
+/// One line; the last figure is the library's as a multiple of `before`.
 fn line(name: &str, rows: usize, figures: &[f64], before: Option<f64>) {
     let library = figures[0];
     print!("  {name:<12} {rows:>5} {library:>12.0}");
@@ -114,21 +122,30 @@ fn line(name: &str, rows: usize, figures: &[f64], before: Option<f64>) {
     }
 }
 
+/// Runs of tables that differ in names alone, all taking turns.
+fn names(tables: &[Subject]) {
+    head("a run of a thousand variables that have so many names", "names", "unnamed");
+    let mut calls: Vec<Call> = tables.iter().flat_map(runs).collect();
+    let figures = timing::measured(&mut calls);
+    let each = figures.chunks(figures.len() / tables.len());
+    for ((subject, names), figures_of) in tables.iter().zip(NAMES).zip(each) {
+        line(&names.to_string(), subject.rows.len(), figures_of, Some(figures[0]));
+    }
+}
+
 fn main() {
     let mut subjects: Vec<Subject> = (0..20).map(Subject::mixed).collect();
     for size in SIZES {
         subjects.extend(Family::ALL.map(|family| Subject::new(family, size)));
     }
+    subjects.extend(NAMES.map(Subject::named));
     subjects.iter().for_each(check);
 
     println!("ns a call, medians, width 32; a ratio above 1 says that the library is slower");
     println!("growth: the library's cost as a multiple of its cost at a quarter of the rows");
+    println!("unnamed: the library's cost as a multiple of its cost without names");
     for family in Family::ALL {
-        println!("\n{}", family.name());
-        println!(
-            "  {:<12} {:>5} {:>12} {:>12} {:>6} {:>12} {:>6} {:>10} {:>8}",
-            "call", "rows", "library", "second", "ratio", "plain C", "ratio", "Mrows/s", "growth"
-        );
+        head(family.name(), "call", "growth");
         let mut lines: Vec<(&str, usize, Vec<f64>)> = Vec::new();
         for size in SIZES {
             let subject = Subject::new(family, size);
@@ -147,6 +164,7 @@ fn main() {
             }
         }
     }
+    names(&NAMES.map(Subject::named));
     println!();
     depth::print(&subjects);
 }

@@ -76,6 +76,15 @@ pub pick-alike {ℓ} : {A : Type ℓ} (t : Bool) {x x′ y y′ : A} → (t ≡ 
 pick-alike true p q = p refl
 pick-alike false p q = q refl
 
+-- two picks that differ in what the failed test gives: what carries a property over from one to the other there, and what makes them equal there
+pub pick-along {ℓ κ} : {A : Type ℓ} (P : A → Type κ) (t : Bool) (x : A) {y z : A} → (P y → P z) → P (cond t x y) → P (cond t x z)
+pick-along P true x along p = p
+pick-along P false x along p = along p
+
+pub pick-under {ℓ κ} : {A : Type ℓ} (P : A → Type κ) (t : Bool) (x : A) {y z z′ : A} → (P y → z ≡ z′) → P (cond t x y) → cond t x z ≡ cond t x z′
+pick-under P true x alike p = refl
+pick-under P false x alike p = alike p
+
 -- what holds of two numbers holds of the smaller, and of the larger
 pub min-case : (P : ℕ → Type 0) (x y : ℕ) → P x → P y → P (min x y)
 min-case P x y p q =

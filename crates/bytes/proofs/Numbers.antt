@@ -14,10 +14,6 @@ use Rattle.bytes.specs.Numbers.{byte, number, bytes, AllBytes}
 pub byte-fits : (t : List ℕ) → AllBytes t → (i : ℕ) → byte t i < 2 ^ 64
 byte-fits t all i = omega (arith, all i)
 
-pub number-four : (t : List ℕ) (i : ℕ) → number 4 t i ≡ byte t i + 256 * (byte t (i + 1) + 256 * (byte t (i + 2) + 256 * byte t (i + 3)))
-unfolding number
-number-four t i = simp add-assoc (omega arith)
-
 pub number-eight : (t : List ℕ) (i : ℕ) → number 8 t i ≡ number 4 t i + 4294967296 * number 4 t (i + 4)
 unfolding number
 number-eight t i = simp add-assoc (omega arith)
@@ -35,7 +31,7 @@ pub number-same : (n : ℕ) (s t : List ℕ) (i k : ℕ) → ((j : ℕ) → j < 
 unfolding number
 number-same zero s t i k same = refl
 number-same (suc n) s t i k same =
-    ap₂ (λ (b m : ℕ). b + 256 * m) (simp add-zero at (same 0 (omega arith)))
+    ap₂ (λ (b m : ℕ). b % 256 + 256 * m) (simp add-zero at (same 0 (omega arith)))
     (number-same n s t (i + 1) (k + 1) (λ j h. rw (step i j, step k j) (same (suc j) (omega arith))))
 
 pub number-bytes : (n v : ℕ) → v < 256 ^ n → number n (bytes n v) 0 ≡ v
@@ -47,18 +43,18 @@ number-bytes (suc n) v h =
     number-same n (v % 256 ∷ bytes n (v / 256)) (bytes n (v / 256)) 1 0 (λ j h. rw (one-add, zero-add)) in
     omega arith
 
-pub number-below : (n : ℕ) (t : List ℕ) (i : ℕ) → AllBytes t → number n t i < 256 ^ n
+pub number-below : (n : ℕ) (t : List ℕ) (i : ℕ) → number n t i < 256 ^ n
 unfolding number
-number-below zero t i all = omega arith
-number-below (suc n) t i all = rw pow-succ' (omega (arith, all i, number-below n t (i + 1) all))
+number-below zero t i = omega arith
+number-below (suc n) t i = rw pow-succ' (omega (arith, number-below n t (i + 1)))
 
 -- the bytes of the number that stands somewhere are those that stand there
 pub bytes-number : (n : ℕ) (t : List ℕ) (i : ℕ) → AllBytes t → i + n ≤ length t → bytes n (number n t i) ≡ take n (drop i t)
 unfolding number bytes
 bytes-number zero t i all room = refl
 bytes-number (suc n) t i all room =
-    let low : (byte t i + 256 * number n t (i + 1)) % 256 ≡ byte t i = omega (arith, all i) in
-    let high : (byte t i + 256 * number n t (i + 1)) / 256 ≡ number n t (i + 1) = omega (arith, all i) in
+    let low : (byte t i % 256 + 256 * number n t (i + 1)) % 256 ≡ byte t i = omega (arith, all i) in
+    let high : (byte t i % 256 + 256 * number n t (i + 1)) / 256 ≡ number n t (i + 1) = omega arith in
     rw (low, high, bytes-number n t (i + 1) all (omega arith), drop-cons t i 0 (omega arith), add-one)
 
 -- what is left of a number behind its n lowest bytes

@@ -12,10 +12,10 @@ byte t i = getD t i 0
 abbrev pub AllBytes : List ℕ → Type 0
 AllBytes t = (i : ℕ) → byte t i < 256
 
--- the number in the n bytes from i on
+-- the number in the n bytes from i on. (Elements of lent bytes are below 256; taken modulo 256, n of them are below 256 ^ n in any list.)
 unfoldable pub number : ℕ → List ℕ → ℕ → ℕ
 number ℕ.zero t i = 0
-number (suc n) t i = byte t i + 256 * number n t (i + 1)
+number (suc n) t i = byte t i % 256 + 256 * number n t (i + 1)
 
 -- the n bytes of a number
 unfoldable pub bytes : ℕ → ℕ → List ℕ

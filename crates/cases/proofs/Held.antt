@@ -9,9 +9,11 @@ use Rattle.range.specs.Range
 use Rattle.bytes.specs.Numbers
 use Rattle.row.specs.Names
 use Rattle.row.specs.Bytes
+use Rattle.names.specs.First
 use Rattle.table.specs.Uses
 use Rattle.table.specs.Refusals
 use Rattle.term.specs.Term
+use Rattle.term.specs.Seen
 use Rattle.term.specs.Base
 use Rattle.term.specs.Relation
 use Rattle.term.specs.Walk
@@ -28,5 +30,5 @@ use Rattle.cases.specs.Case
 use Rattle.cases.specs.Cases
 
 pub all-hold : Case.allHold Cases.cases ≡ true
-unfolding Build.put Build.grow Build.grown Count.countWhere Count.anyBelow Reason.first Word.plus Word.minus Range.span Range.point Range.full Range.sum Range.negation Range.disjoint Names.place Numbers.number Numbers.bytes Bytes.rowFrom Bytes.rowAt Bytes.sourceAt Bytes.markWrong Bytes.headOf Bytes.bytesOf Bytes.putRow Uses.sortOf Uses.usesOf Refusals.width Refusals.rows Refusals.headWrong Refusals.headReasons Refusals.reference Refusals.useAt Refusals.isUsed Refusals.anyField Refusals.strayField Refusals.largeNumber Refusals.notBelow Refusals.wrongSort Refusals.boundsCrossed Refusals.rowReasons Refusals.rowFault Refusals.refuse Refusals.accepted Refusals.given Refusals.firstFaulty Refusals.checkRows Refusals.checkTable Term.termOf Term.rowOf Term.isRead Term.isArray Term.anyNamed Base.base Base.offset Base.baseOf Base.offsetOf Base.written Base.shapeOf Base.leftOf Base.rightOf Base.sameBase Base.isNothing Base.openRow Base.openOffset Base.openTo Base.openBy Base.plainOf Base.plain Relation.rangeBy Relation.rangeDown Relation.rangeOf Relation.related Walk.walk Walk.walkAt Walk.step Rule.shiftRule Rule.sumRule Rule.negBy Rule.negRule Rule.diffRule Rule.readBy Rule.readRule Rule.skipBy Rule.skipAt Rule.writeRule Rule.rule Result.simplified Result.renewed Result.result Result.touchedBy Result.removedRows termBytes.look termBytes.putIf termBytes.putRows Verdict.isAccepted judgeRun.roomReasons judgeRun.runVerdict judgeEdit.keptPart judgeEdit.otherHeader judgeEdit.otherSorts judgeEdit.keptWrong judgeEdit.keptVerdict judgeEdit.editReasons Answer.modulus Answer.answer Answer.answered Run.freshRows Run.freshBytes Run.runAnswer Run.runResult Edit.edited Edit.editVerdict Edit.editedRows Edit.editedBytes Edit.touchedRows Edit.editAnswer Edit.editTable Edit.editKept Case.holds Case.allHold Cases.p1 Cases.cases
+unfolding Build.put Build.grow Build.grown Count.countWhere Count.anyBelow Reason.first Word.plus Word.minus Range.span Range.point Range.full Range.sum Range.negation Range.disjoint Names.place Numbers.number Numbers.bytes Bytes.rowFrom Bytes.rowAt Bytes.sourceAt Bytes.markWrong Bytes.headOf Bytes.bytesOf Bytes.putRow First.nameOf First.nameAt First.firstNamed First.firstOf Uses.sortOf Uses.usesOf Refusals.width Refusals.rows Refusals.headWrong Refusals.headReasons Refusals.reference Refusals.useAt Refusals.isUsed Refusals.isReference Refusals.anyField Refusals.strayField Refusals.largeNumber Refusals.notBelow Refusals.wrongSort Refusals.boundsCrossed Refusals.otherBounds Refusals.rowReasons Refusals.rowFault Refusals.refuse Refusals.accepted Refusals.given Refusals.firstFaulty Refusals.checkRows Refusals.checkTable Term.termOf Term.rowOf Term.statedBy Term.isRead Term.isArray Term.anyNamed Seen.firstRow Seen.isLater Seen.byName Seen.seen Base.base Base.offset Base.baseOf Base.offsetOf Base.written Base.shapeOf Base.leftOf Base.rightOf Base.sameBase Base.isNothing Base.openRow Base.openOffset Base.openTo Base.openBy Base.plainOf Base.plain Relation.rangeBy Relation.rangeDown Relation.rangeOf Relation.related Walk.walk Walk.walkAt Walk.step Rule.shiftRule Rule.sumRule Rule.negBy Rule.negRule Rule.diffRule Rule.readBy Rule.readRule Rule.skipBy Rule.skipAt Rule.writeRule Rule.rule Result.ruleAt Result.simplified Result.renewed Result.result Result.touchedBy Result.touchedIn Result.removedRows termBytes.look termBytes.edited termBytes.putIf termBytes.putRows Verdict.isAccepted judgeRun.roomReasons judgeRun.runVerdict judgeEdit.keptPart judgeEdit.otherHeader judgeEdit.otherSorts judgeEdit.keptWrong judgeEdit.keptVerdict judgeEdit.editReasons Answer.modulus Answer.answer Answer.answered Run.freshRows Run.freshBytes Run.runAnswer Run.runResult Edit.editVerdict Edit.isTouched Edit.editedRows Edit.editedBytes Edit.touchedRows Edit.editAnswer Edit.editTable Edit.editKept Case.holds Case.allHold Cases.p1 Cases.cases
 all-hold = refl

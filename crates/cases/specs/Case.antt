@@ -10,9 +10,10 @@ use Rattle.range.specs.Range as range
 use Rattle.bytes.specs.Numbers.{bytes}
 use Rattle.row.specs.Bytes.{bytesOf}
 use Rattle.term.specs.Term.{Term, rowOf}
+use Rattle.term.specs.Bytes.{edited}
 use Rattle.simplify.specs.declared.Answer.{Answer}
 use Rattle.simplify.specs.Run.{runAnswer, runResult}
-use Rattle.simplify.specs.Edit.{edited, editAnswer, editTable, editKept}
+use Rattle.simplify.specs.Edit.{editAnswer, editTable, editKept}
 
 pub data Case : Type 0 where
   -- at a width, a range plus a range is a range

@@ -1,4 +1,4 @@
--- P1 to P10.
+-- P1 to P10, and registers seen twice (document 02, A2).
 use Prim.Native.Nat.{_-_, _^_}
 use mathlib.Core.List.{List, [], _∷_}
 use Rattle.range.specs.Range.{span}
@@ -48,4 +48,36 @@ cases =
     (fresh ∷ var 0 0 255 ∷ const 1 ∷ const 2 ∷ write 0 1 2 ∷ write 4 1 3 ∷ [])
     (fresh ∷ var 0 0 255 ∷ const 1 ∷ const 2 ∷ write 0 1 2 ∷ write 0 1 3 ∷ [])
     0 6 ∷
+    -- A2: a register minus itself
+    runs 8
+    (var 3 0 255 ∷ var 3 0 255 ∷ diff 1 0 0 ∷ [])
+    (var 3 0 255 ∷ shift 0 0 ∷ const 0 ∷ [])
+    0 3 ∷
+    -- A2: names that agree modulo 256, and rows without a name
+    runs 8
+    (var 3 0 9 ∷ var 259 0 9 ∷ var 0 0 9 ∷ var 0 0 9 ∷ var 259 0 9 ∷ diff 1 0 0 ∷ diff 3 2 0 ∷ diff 4 1 0 ∷ [])
+    (var 3 0 9 ∷ var 259 0 9 ∷ var 0 0 9 ∷ var 0 0 9 ∷ shift 1 0 ∷ diff 1 0 0 ∷ diff 3 2 0 ∷ const 0 ∷ [])
+    0 8 ∷
+    -- A2: stored through the first, read through the second
+    runs 8
+    (var 3 100 200 ∷ fresh ∷ const 7 ∷ write 1 0 2 ∷ var 3 100 200 ∷ read 3 4 ∷ [])
+    (var 3 100 200 ∷ fresh ∷ const 7 ∷ write 1 0 2 ∷ shift 0 0 ∷ const 7 ∷ [])
+    1 6 ∷
+    -- A2: other bounds, of the first and of a later row, and in a row that stays; 15 goes first
+    refuses 8 (var 3 0 9 ∷ const 1 ∷ var 3 0 9 ∷ var 3 0 9 ∷ []) 0 (var 3 0 8) 18 2 ∷
+    refuses 8 (var 3 0 9 ∷ const 1 ∷ var 3 0 9 ∷ var 3 0 9 ∷ []) 2 (var 3 1 9) 18 2 ∷
+    refuses 8 (var 3 0 9 ∷ var 3 0 8 ∷ const 1 ∷ []) 2 (const 0) 18 1 ∷
+    refuses 8 (var 3 0 9 ∷ var 3 0 9 ∷ []) 1 (var 3 9 0) 15 1 ∷
+    -- A2: the first gets another name, so the second is the first of its name; a third leads back by the name that was
+    edits 8 (var 3 0 9 ∷ var 3 0 9 ∷ var 3 0 9 ∷ diff 2 0 5 ∷ const 1 ∷ []) 0 (var 4 0 9)
+    (var 4 0 9 ∷ var 3 0 9 ∷ shift 1 0 ∷ diff 1 0 5 ∷ const 1 ∷ [])
+    0 4 ∷
+    -- A2: a row above the first gets its name
+    edits 8 (const 1 ∷ var 3 0 9 ∷ shift 1 2 ∷ var 4 0 9 ∷ []) 0 (var 3 0 9)
+    (var 3 0 9 ∷ shift 0 0 ∷ shift 0 2 ∷ var 4 0 9 ∷ [])
+    0 3 ∷
+    -- A2: a later row gets another name: those behind it do not lead back to it
+    edits 8 (var 3 0 9 ∷ var 3 0 9 ∷ var 3 0 9 ∷ []) 1 (var 4 0 9)
+    (var 3 0 9 ∷ var 4 0 9 ∷ shift 0 0 ∷ [])
+    0 1 ∷
     []

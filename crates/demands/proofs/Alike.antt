@@ -15,6 +15,7 @@ use Rattle.row.specs.Names.{HEADER, LENGTH, place}
 use Rattle.row.specs.Bytes.{rowAt, markWrong, bytesOf, putRow}
 use Rattle.row.proofs.Places.{header-below, place-suc}
 use Rattle.row.proofs.Rows.{rowFrom-same, markWrong-same, bytes-stay, bytes-new, take-stays, length-bytesOf, fields-bytesOf}
+use Rattle.names.specs.First.{nameOf, nameAt, firstOf}
 use Rattle.table.specs.declared.Uses.{Uses}
 use Rattle.table.specs.declared.Verdict.{Verdict}
 use Rattle.table.specs.Uses.{usesOf}
@@ -54,9 +55,16 @@ module _ (s t : List ℕ) (same : AlikeButSources s t) where
   unfolding wrongSort
   sort-alike u x = fun-ext (λ (f : ℕ). rw (row-alike (reference x f)))
 
+  names-alike : nameAt s ≡ nameAt t
+  unfolding nameAt
+  names-alike = fun-ext (λ (r : ℕ). ap nameOf (row-alike r))
+
   fault-alike : rowFault s ≡ rowFault t
   unfolding rowFault rowReasons
-  fault-alike = fun-ext (λ (r : ℕ). rw (row-alike r, mark-alike r, width-alike, sort-alike (usesOf (rowAt t r .kind)) (rowAt t r)))
+  fault-alike =
+      fun-ext
+      (λ (r : ℕ).
+      rw (row-alike r, mark-alike r, width-alike, sort-alike (usesOf (rowAt t r .kind)) (rowAt t r), names-alike, row-alike (firstOf (nameAt t) r)))
 
   pub scan-alike : (after : Verdict) → checkRows s after ≡ checkRows t after
   unfolding checkRows

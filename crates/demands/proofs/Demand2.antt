@@ -17,7 +17,7 @@ use Rattle.term.specs.Term.{Term}
 use Rattle.term.specs.Relation.{rangeOf}
 use Rattle.term.specs.WellFormed.{WellFormed}
 use Rattle.term.specs.Bytes.{look}
-use Rattle.term.proofs.Accepted.{accepted-formed}
+use Rattle.term.proofs.Accepted.{accepted-formed, accepted-one}
 use Rattle.meaning.specs.Meaning.{Choice, Permitted, value, content}
 use Rattle.meaning.proofs.Demand2 as rules
 use Rattle.meaning.proofs.Choices.{least, choice-exists}
@@ -53,7 +53,7 @@ module _ (t buffer : List ℕ) (granted : isAccepted (runVerdict t buffer) ≡ t
 
   -- there is a permitted choice
   pub some-choice : Permitted (modulus t) (look t) (least (look t))
-  some-choice = choice-exists (modulus t) (positive t) (look t) (formed t ok)
+  some-choice = choice-exists (modulus t) (positive t) (look t) (formed t ok) (accepted-one t ok)
 
   module _ (choice : Choice) (permitted : Permitted (modulus t) (look t) choice) where
     pub words-mean : (x : ℕ) → value (modulus t) choice (rowsIn t (runResult t buffer)) x ≡ value (modulus t) choice (look t) x

@@ -3,7 +3,7 @@
 use Prim.Native.Nat.{ℕ, _≤_}
 use mathlib.Core.Path.{_≡_, ap, sym, _∙_}
 use mathlib.Core.Bool.{true, false}
-use mathlib.Core.Logic.{⊎-elim}
+use mathlib.Core.Logic.{_⊎_, ⊎-elim}
 use mathlib.Core.List.{List}
 use lib.ListN.{length, take}
 use lib.Seq.{length-sets}
@@ -16,10 +16,12 @@ use Rattle.table.specs.Refusals.{rows, refuse, accepted, checkTable}
 use Rattle.table.specs.Accepted.{Accepted}
 use Rattle.table.proofs.Accepts.{accepted-gives}
 use Rattle.term.specs.Leads.{LeadsBack}
-use Rattle.term.specs.Result.{touchedBy}
-use Rattle.term.specs.Bytes.{look}
+use Rattle.term.specs.Seen.{seen}
+use Rattle.term.specs.Bytes.{look, edited}
+use Rattle.term.proofs.Names.{NamesBelow}
 use Rattle.term.proofs.WellFormed.{formed-below}
-use Rattle.term.proofs.Touched.{touched-is}
+use Rattle.term.proofs.Touched.{touched-in-is, is-touched-in}
+use Rattle.term.proofs.Looked.{edited-others}
 use Rattle.term.proofs.Accepted.{accepted-formed}
 use Rattle.term.proofs.There.{rowBytes, rows-stay}
 use Rattle.judge.specs.Verdict.{isAccepted}
@@ -27,7 +29,7 @@ use Rattle.judge.specs.Run.{runVerdict}
 use Rattle.judge.proofs.Verdicts.{table-passes, head-same}
 use Rattle.judge.proofs.Granted.{run-granted, grant-run}
 use Rattle.simplify.specs.Run.{freshBytes, runResult}
-use Rattle.simplify.specs.Edit.{edited, editVerdict, editedRows, editedBytes, editTable, editKept}
+use Rattle.simplify.specs.Edit.{editVerdict, isTouched, editedRows, editedBytes, editTable, editKept}
 use Rattle.simplify.proofs.Granted.{EditGranted, edit-granted}
 use Rattle.demands.specs.Own.{Own, Edits, none, one}
 use Rattle.simplify.proofs.FreshRun.{fresh-length}
@@ -81,20 +83,37 @@ module _ (t kept : List ℕ) (r : ℕ) (replacement : List ℕ) (granted : isAcc
   unfolding editTable
   table-left = pick-true (isAccepted (editVerdict t kept r replacement)) _ _ granted
 
-  pub kept-left : editKept t kept r replacement ≡ editedBytes (edited t r replacement) r kept
+  pub kept-left : editKept t kept r replacement ≡ editedBytes t (edited t r replacement) r kept
   unfolding editKept
   kept-left = pick-true (isAccepted (editVerdict t kept r replacement)) _ _ granted
 
-  -- a row that is not r and does not lead back to r
-  pub others-stay : (x : ℕ) → (x ≡ r → ⊥) → (LeadsBack (look (editTable t kept r replacement)) r x → ⊥) → rowBytes (editKept t kept r replacement) x ≡ rowBytes kept x
-  unfolding editedBytes
-  others-stay x other apart =
+  pub edited-room : place (rows (edited t r replacement)) ≤ length kept
+  edited-room = rw (← ok .head .size, edited-long) (is .ready .roomy .room)
+
+  -- the touched rows are row r and those that lead back to it, names followed, in the table as it stood before or as it stands after
+  alike : (x : ℕ) → (x ≡ r → ⊥) → look t x ≡ look e x
+  alike = edited-others t r replacement (is .ready .long)
+
+  below : NamesBelow (look e)
+  below = formed-below _ (look e) (accepted-formed e ok)
+
+  pub edited-touched : (x : ℕ) → (x ≡ r) ⊎ LeadsBack (seen (look t)) r x ⊎ LeadsBack (seen (look (edited t r replacement))) r x →
+      isTouched t (edited t r replacement) r x ≡ true
+  unfolding isTouched
+  edited-touched = is-touched-in (look t) (look e) r alike below
+
+  -- a row that is not r and does not lead back to r, names followed, in the table as it stood before or as it stands after
+  pub others-stay : (x : ℕ) → (x ≡ r → ⊥) → (LeadsBack (seen (look t)) r x → ⊥) → (LeadsBack (seen (look (editTable t kept r replacement))) r x → ⊥) →
+      rowBytes (editKept t kept r replacement) x ≡ rowBytes kept x
+  unfolding editedBytes isTouched
+  others-stay x other apart-before apart-after =
       ap (λ (l : List ℕ). rowBytes l x) kept-left ∙
-      rows-stay (editedRows e r kept) (sourceAt e) (touchedBy (look e) r) (rows e) kept x
-      (test-case (touchedBy (look e) r x)
-      (λ (h : touchedBy (look e) r x ≡ true).
-      absurd (⊎-elim other (rw table-left at apart) (touched-is (look e) r (formed-below _ (look e) (accepted-formed e ok)) x h)))
-      (λ (h : touchedBy (look e) r x ≡ false). h))
+      rows-stay (editedRows t e r kept) (sourceAt e) (isTouched t e r) (rows e) kept x
+      (test-case (isTouched t e r x)
+      (λ (h : isTouched t e r x ≡ true).
+      absurd (⊎-elim other (⊎-elim apart-before (rw table-left at apart-after))
+      (touched-in-is (look t) (look e) r alike below x h)))
+      (λ (h : isTouched t e r x ≡ false). h))
 
   module _ (own : Own t kept) where
     settled : freshBytes t kept ≡ kept

@@ -2,21 +2,23 @@
 use Prim.Native.Nat.{ℕ, _^_, _≤_, _<_}
 use mathlib.Core.Path.{_≡_, refl, ap, ap₂, sym, fun-ext, _∙_}
 use mathlib.Core.Bool.{true, false}
+use mathlib.Core.Logic.{inl}
 use mathlib.Core.List.{List}
 use lib.ListN.{length, take}
 use Rattle.basis.proofs.Pick.{test-case}
 use Rattle.row.specs.Names.{HEADER, LENGTH, place}
 use Rattle.row.specs.Bytes.{sourceAt, bytesOf}
 use Rattle.row.proofs.Places.{header-below}
-use Rattle.row.proofs.Rows.{row-stays, source-stays, take-stays}
+use Rattle.row.proofs.Rows.{source-stays, take-stays}
 use Rattle.table.specs.Refusals.{width, rows}
 use Rattle.table.specs.Accepted.{Accepted}
-use Rattle.term.specs.Term.{Term, rowOf, termOf}
-use Rattle.term.specs.Result.{renewed, result, touchedBy}
-use Rattle.term.specs.Bytes.{look, putRows}
+use Rattle.term.specs.Term.{Term, rowOf}
+use Rattle.term.specs.Result.{renewed, result}
+use Rattle.term.specs.Bytes.{look, edited, putRows}
 use Rattle.term.proofs.Names.{NamesBelow}
 use Rattle.term.proofs.WellFormed.{formed-below}
-use Rattle.term.proofs.Touched.{touched-itself}
+use Rattle.term.proofs.Touched.{is-touched-in}
+use Rattle.term.proofs.Looked.{edited-others}
 use Rattle.term.proofs.Edit.{untouched-result, edit-is-run}
 use Rattle.term.proofs.Placed.{put-rows-same}
 use Rattle.term.proofs.There.{rowBytes, rows-alike}
@@ -26,7 +28,7 @@ use Rattle.term.proofs.Outcome.{run-look}
 use Rattle.judge.specs.Edit.{keptPart}
 use Rattle.simplify.specs.Answer.{modulus, LIMIT}
 use Rattle.simplify.specs.Run.{freshRows, freshBytes}
-use Rattle.simplify.specs.Edit.{edited, editedRows, editedBytes}
+use Rattle.simplify.specs.Edit.{isTouched, editedRows, editedBytes}
 use Rattle.demands.proofs.Fresh.{head-there, fresh-head, fresh-there}
 
 module _ (t kept : List ℕ) (r : ℕ) (new : List ℕ) (long : length new ≡ LENGTH) (ok : Accepted t) (ok′ : Accepted (edited t r new)) (room : length t ≤ length kept)
@@ -39,8 +41,7 @@ module _ (t kept : List ℕ) (r : ℕ) (new : List ℕ) (long : length new ≡ L
   same-head = take-stays t r new long HEADER (header-below r)
 
   alike : (x : ℕ) → (x ≡ r → ⊥) → look t x ≡ look e x
-  unfolding look edited
-  alike x other = sym (ap termOf (row-stays t r new long x other))
+  alike = edited-others t r new long
 
   -- the replacement brings its own source
   same-source : (x : ℕ) → (x ≡ r → ⊥) → sourceAt t x ≡ sourceAt e x
@@ -79,26 +80,26 @@ module _ (t kept : List ℕ) (r : ℕ) (new : List ℕ) (long : length new ≡ L
   unfolding freshRows
   same-rules x = ap (λ (M : ℕ). result M LIMIT (look t) x) (sym modulus-same)
 
-  pub untouched-fresh : (x : ℕ) → touchedBy (look e) r x ≡ false → freshRows t x ≡ freshRows e x
-  unfolding freshRows
+  pub untouched-fresh : (x : ℕ) → isTouched t e r x ≡ false → freshRows t x ≡ freshRows e x
+  unfolding freshRows isTouched
   untouched-fresh x h = same-rules x ∙ untouched-result (modulus e) LIMIT (look t) (look e) r alike below below′ x h
 
-  pub edited-rows : (x : ℕ) → editedRows e r kept x ≡ freshRows e x
-  unfolding editedRows freshRows
+  pub edited-rows : (x : ℕ) → editedRows t e r kept x ≡ freshRows e x
+  unfolding editedRows freshRows isTouched
   edited-rows x =
-      ap (λ (f : ℕ → Term). renewed (modulus e) LIMIT (touchedBy (look e) r) (look e) f x) (fun-ext (λ (y : ℕ). part-look y ∙ same-rules y)) ∙
+      ap (λ (f : ℕ → Term). renewed (modulus e) LIMIT (isTouched t e r) (look e) f x) (fun-ext (λ (y : ℕ). part-look y ∙ same-rules y)) ∙
       edit-is-run (modulus e) LIMIT (look t) (look e) r alike below below′ x
 
-  pub edited-bytes : editedBytes e r kept ≡ freshBytes e kept
-  unfolding editedBytes freshBytes
+  pub edited-bytes : editedBytes t e r kept ≡ freshBytes e kept
+  unfolding editedBytes freshBytes isTouched
   edited-bytes =
-      put-rows-same (touchedBy (look e) r) (touchedBy (look e) r) (editedRows e r kept) (freshRows e) (sourceAt e) (rows e) kept (λ x l. refl) (λ x l. edited-rows x) ∙
-      rows-alike (freshRows e) (sourceAt e) (touchedBy (look e) r) (λ x. true) (rows e) kept there ∙
+      put-rows-same (isTouched t e r) (isTouched t e r) (editedRows t e r kept) (freshRows e) (sourceAt e) (rows e) kept (λ x l. refl) (λ x l. edited-rows x) ∙
+      rows-alike (freshRows e) (sourceAt e) (isTouched t e r) (λ x. true) (rows e) kept there ∙
       ap (putRows (λ x. true) (freshRows e) (sourceAt e) (rows e)) (sym (head-there e kept (kept-head ∙ sym same-head)))
     where
-      there : (x : ℕ) → x < rows e → (touchedBy (look e) r x ≡ true → ⊥) → rowBytes kept x ≡ bytesOf (rowOf (freshRows e x)) (sourceAt e x)
+      there : (x : ℕ) → x < rows e → (isTouched t e r x ≡ true → ⊥) → rowBytes kept x ≡ bytesOf (rowOf (freshRows e x)) (sourceAt e x)
       there x l other =
           ap (λ (b : List ℕ). rowBytes b x) (sym own) ∙ fresh-there t kept ok room x (rw rows-same at l) ∙
           ap₂ (λ (u : Term) (s : ℕ). bytesOf (rowOf u) s)
-          (untouched-fresh x (test-case (touchedBy (look e) r x) (λ h. absurd (other h)) (λ h. h)))
-          (same-source x (λ same. other (ap (touchedBy (look e) r) same ∙ touched-itself (look e) r below′)))
+          (untouched-fresh x (test-case (isTouched t e r x) (λ h. absurd (other h)) (λ h. h)))
+          (same-source x (λ same. other (is-touched-in (look t) (look e) r alike below′ x (inl same))))

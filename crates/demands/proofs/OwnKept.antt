@@ -27,7 +27,7 @@ use Rattle.table.proofs.Accepts.{accepted-gives, gives-accepted}
 use Rattle.table.proofs.Faulty.{given-passes, given-refuses}
 use Rattle.table.proofs.Exactly.{after-rows}
 use Rattle.term.specs.Term.{termOf, isArray}
-use Rattle.term.specs.Bytes.{look, putRows}
+use Rattle.term.specs.Bytes.{look, edited, putRows}
 use Rattle.term.proofs.WellFormed.{result-sort}
 use Rattle.term.proofs.Accepted.{accepted-formed}
 use Rattle.term.proofs.Acceptable.{same-rows}
@@ -38,7 +38,7 @@ use Rattle.judge.proofs.Verdicts.{accepted-is}
 use Rattle.judge.proofs.Granted.{EditReady, edit-ready, run-granted}
 use Rattle.simplify.specs.Answer.{modulus, LIMIT}
 use Rattle.simplify.specs.Run.{freshRows, freshBytes}
-use Rattle.simplify.specs.Edit.{edited, editVerdict}
+use Rattle.simplify.specs.Edit.{editVerdict}
 use Rattle.demands.specs.Own.{Own}
 use Rattle.demands.proofs.Fresh.{head-there, fresh-head}
 use Rattle.demands.proofs.Demand3.{run-leaves}

@@ -13,7 +13,7 @@ use lib.Seq.{sets, length-sets, getD-take}
 use Rattle.basis.specs.Reason.{first}
 use Rattle.basis.specs.Count.{anyBelow}
 use Rattle.basis.proofs.Pick.{pick-true, test-case}
-use Rattle.bytes.specs.Numbers.{byte, AllBytes}
+use Rattle.bytes.specs.Numbers.{byte}
 use Rattle.row.specs.Names.{HEADER, place}
 use Rattle.row.specs.Bytes.{sourceAt}
 use Rattle.row.proofs.Places.{header-below, room-in}
@@ -25,11 +25,9 @@ use Rattle.table.proofs.Heads.{good-head}
 use Rattle.table.proofs.Accepts.{accepted-gives}
 use Rattle.table.proofs.Faulty.{given-passes, given-refuses}
 use Rattle.term.specs.Leads.{LeadsBack}
-use Rattle.term.specs.Result.{touchedBy}
-use Rattle.term.specs.Bytes.{look}
-use Rattle.term.proofs.WellFormed.{formed-below}
-use Rattle.term.proofs.Touched.{is-touched}
-use Rattle.term.proofs.Accepted.{accepted-formed}
+use Rattle.term.specs.Seen.{seen}
+use Rattle.term.specs.Result.{touchedIn}
+use Rattle.term.specs.Bytes.{look, edited}
 use Rattle.term.proofs.Acceptable.{same-rows}
 use Rattle.term.proofs.Placed.{put-rows-source}
 use Rattle.judge.specs.Verdict.{isAccepted}
@@ -39,47 +37,40 @@ use Rattle.judge.specs.Compare.{pairReasons, arrayReasons, arrayVerdict}
 use Rattle.judge.proofs.Granted.{EditReady, edit-ready, RunGranted, run-granted}
 use Rattle.simplify.specs.Answer.{answer}
 use Rattle.simplify.specs.Run.{freshRows, freshBytes, runAnswer, runResult}
-use Rattle.simplify.specs.Edit.{edited, editVerdict, editedRows, editedBytes, touchedRows, editAnswer, editTable, editKept}
+use Rattle.simplify.specs.Edit.{editVerdict, isTouched, editedRows, editedBytes, touchedRows, editAnswer, editTable, editKept}
 use Rattle.simplify.specs.Compare.{compareVerdict, freshRelation, compareAnswer, compareResult}
 use Rattle.simplify.proofs.Granted.{edit-granted, CompareGranted, compare-granted}
 use Rattle.demands.specs.Sources.{AlikeButSources, RowAlike}
 use Rattle.demands.proofs.Alike.{rows-alike, look-alike, head-alike, scan-alike, check-alike, modulus-alike, fresh-alike, part-alike, sets-alike, put-rows-alike, header-alike}
 use Rattle.demands.proofs.Demand1.{edit-counts-nothing}
-use Rattle.demands.proofs.Demand3.{run-leaves, edited-long, edited-head, edited-passes, table-left, kept-left}
+use Rattle.demands.proofs.Demand3.{run-leaves, edited-long, edited-head, edited-passes, edited-room, edited-touched, table-left, kept-left}
 
 -- ---- a result row carries the source of its own row of the table
 
-pub run-carries : (t buffer : List ℕ) → AllBytes t → isAccepted (runVerdict t buffer) ≡ true → (x : ℕ) → x < rows t → sourceAt (runResult t buffer) x ≡ sourceAt t x
+pub run-carries : (t buffer : List ℕ) → isAccepted (runVerdict t buffer) ≡ true → (x : ℕ) → x < rows t → sourceAt (runResult t buffer) x ≡ sourceAt t x
 unfolding freshBytes
-run-carries t buffer all granted x l =
+run-carries t buffer granted x l =
     let is : RunGranted t buffer = run-granted t buffer granted in
     let ok : Accepted t = accepted-gives t (is .table) in
     ap (λ (b : List ℕ). sourceAt b x) (run-leaves t buffer granted) ∙
     put-rows-source (λ y. true) (freshRows t) (sourceAt t) (rows t) (sets buffer 0 (take HEADER t)) (rw (length-sets, ← ok .head .size) (is .roomy .room))
-    (λ y. source-small t y all) x l
+    (source-small t) x l
 
 -- so does each row that an edit works out anew; the others keep all their bytes (Demand3's `others-stay`)
-module _ (t kept : List ℕ) (r : ℕ) (new : List ℕ) (all : AllBytes (editTable t kept r new)) (granted : isAccepted (editVerdict t kept r new) ≡ true) where
+module _ (t kept : List ℕ) (r : ℕ) (new : List ℕ) (granted : isAccepted (editVerdict t kept r new) ≡ true) where
   abbrev e : List ℕ
   e = edited t r new
 
-  ok : Accepted e
-  ok = accepted-gives e (edited-passes t kept r new granted)
-
-  room : place (rows e) ≤ length kept
-  room = rw (← ok .head .size, edited-long t kept r new granted) (edit-granted t kept r new granted .ready .roomy .room)
-
-  pub edit-carries : (x : ℕ) → x < rows t → (x ≡ r) ⊎ LeadsBack (look (editTable t kept r new)) r x →
+  pub edit-carries : (x : ℕ) → x < rows t → (x ≡ r) ⊎ LeadsBack (seen (look t)) r x ⊎ LeadsBack (seen (look (editTable t kept r new))) r x →
       sourceAt (editKept t kept r new) x ≡ sourceAt (editTable t kept r new) x
   unfolding editedBytes
   edit-carries x l led =
       let left : editTable t kept r new ≡ e = table-left t kept r new granted in
-      let led′ : (x ≡ r) ⊎ LeadsBack (look e) r x = rw left at led in
-      let all′ : AllBytes e = rw left at all in
+      let led′ : (x ≡ r) ⊎ LeadsBack (seen (look t)) r x ⊎ LeadsBack (seen (look e)) r x = rw left at led in
       ap (λ (b : List ℕ). sourceAt b x) (kept-left t kept r new granted) ∙
-      put-rows-source (touchedBy (look e) r) (editedRows e r kept) (sourceAt e) (rows e) kept room (λ y. source-small e y all′) x
+      put-rows-source (isTouched t e r) (editedRows t e r kept) (sourceAt e) (rows e) kept (edited-room t kept r new granted) (source-small e) x
       (rw (same-rows e t (edited-head t kept r new granted)) l) ∙
-      pick-true (touchedBy (look e) r x) _ _ (is-touched (look e) r (formed-below _ (look e) (accepted-formed e ok)) x led′) ∙
+      pick-true (isTouched t e r x) _ _ (edited-touched t kept r new granted x led′) ∙
       ap (λ (b : List ℕ). sourceAt b x) (sym left)
 
 -- ---- inputs that are the same but for sources
@@ -189,24 +180,26 @@ module _ (t u kept held : List ℕ) (r : ℕ) (new brought : List ℕ)
       (λ (n : first (editReasons t kept r new) ≡ 0 → ⊥).
       given-refuses _ 0 _ n ∙ ap (λ (k : ℕ). refuse k 0) numbers ∙ sym (given-refuses _ 0 _ (λ z. n (numbers ∙ z))))
 
-  edited-rows-alike : EditReady t kept r new → editedRows (edited t r new) r kept ≡ editedRows (edited u r brought) r held
-  unfolding editedRows
+  edited-rows-alike : EditReady t kept r new → editedRows t (edited t r new) r kept ≡ editedRows u (edited u r brought) r held
+  unfolding editedRows isTouched
   edited-rows-alike ready =
       let edits = edited-alike ready in
       let parts = kept-alike (edited t r new) (edited u r brought) kept held edits results in
       rw (
         modulus-alike (edited t r new) (edited u r brought) edits,
+        look-alike t u tables,
         look-alike (edited t r new) (edited u r brought) edits,
         look-alike (keptPart (edited t r new) kept) (keptPart (edited u r brought) held) parts,
       )
 
   counts : EditReady t kept r new → editAnswer t kept r new ≡ editAnswer u held r brought
-  unfolding editAnswer touchedRows
+  unfolding editAnswer touchedRows isTouched
   counts ready =
       let edits = edited-alike ready in
       rw (
         edit-judged,
         edited-rows-alike ready,
+        look-alike t u tables,
         look-alike (edited t r new) (edited u r brought) edits,
         rows-alike t u tables,
         rows-alike (edited t r new) (edited u r brought) edits,
@@ -224,18 +217,19 @@ module _ (t u kept held : List ℕ) (r : ℕ) (new brought : List ℕ)
   unfolding editTable
   edit-table-alike = left-alike _ _ edit-judged (λ h. edited-alike (edit-granted t kept r new h .ready)) tables
 
-  rows-put : isAccepted (editVerdict t kept r new) ≡ true → AlikeButSources (editedBytes (edited t r new) r kept) (editedBytes (edited u r brought) r held)
-  unfolding editedBytes
+  rows-put : isAccepted (editVerdict t kept r new) ≡ true → AlikeButSources (editedBytes t (edited t r new) r kept) (editedBytes u (edited u r brought) r held)
+  unfolding editedBytes isTouched
   rows-put h =
       let ready : EditReady t kept r new = edit-granted t kept r new h .ready in
       let edits = edited-alike ready in
       let passed : Accepted (edited t r new) = accepted-gives (edited t r new) (edited-passes t kept r new h) in
       rw (
         ← edited-rows-alike ready,
+        ← look-alike t u tables,
         ← look-alike (edited t r new) (edited u r brought) edits,
         ← rows-alike (edited t r new) (edited u r brought) edits,
       )
-      (put-rows-alike (touchedBy (look (edited t r new)) r) (editedRows (edited t r new) r kept) (sourceAt (edited t r new)) (sourceAt (edited u r brought))
+      (put-rows-alike (touchedIn (look t) (look (edited t r new)) r) (editedRows t (edited t r new) r kept) (sourceAt (edited t r new)) (sourceAt (edited u r brought))
       (rows (edited t r new)) kept held (rw (← passed .head .size, edited-long t kept r new h) (ready .roomy .room)) results)
 
   pub edit-kept-alike : AlikeButSources (editKept t kept r new) (editKept u held r brought)

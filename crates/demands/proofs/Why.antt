@@ -17,17 +17,18 @@ use Rattle.table.specs.Accepted.{Accepted}
 use Rattle.table.proofs.Accepts.{accepted-gives}
 use Rattle.term.specs.declared.Reason.the-variants.{Offsets}
 use Rattle.term.specs.declared.Met.{Met}
-use Rattle.term.specs.Term.{Term, const, var, shift, sum, diff, neg, read, fresh, write, rowOf, isRead, isArray}
+use Rattle.term.specs.Term.{Term, const, var, shift, sum, diff, neg, read, fresh, write, rowOf, statedBy, isRead, isArray}
 use Rattle.term.specs.Base.{base, offset}
 use Rattle.term.specs.Relation.{rangeOf}
 use Rattle.term.specs.Walk.{Walk, walk}
 use Rattle.term.specs.Reason.{met, meets}
 use Rattle.term.specs.Rule.{rule, readBy, readRule}
-use Rattle.term.specs.Result.{simplified, removedRows}
+use Rattle.term.specs.Result.{ruleAt, simplified, removedRows}
 use Rattle.term.specs.WellFormed.{Names, Below, WellFormed}
 use Rattle.term.specs.Bytes.{look}
 use Rattle.term.proofs.Base.{base-same}
 use Rattle.term.proofs.Renewed.{result-eq}
+use Rattle.term.proofs.Seen.{by-name-bare}
 use Rattle.term.proofs.Reasons.{Grounds, reason-grounds, shared-base-named}
 use Rattle.term.proofs.Follows.{Follows, Each, compared, walk-follows, met-each, met-length}
 use Rattle.term.proofs.WellFormed.{formed-below, result-sort, result-formed}
@@ -146,9 +147,10 @@ module _ (t buffer : List ℕ) (x : ℕ) (space : List ℕ) (granted : isAccepte
 
     -- and that walk made the result row
     pub walk-made-row : freshRows t x ≡ readBy (modulus t) (freshRows t) i (walked t m i)
-    unfolding freshRows simplified rule readRule
+    unfolding freshRows simplified ruleAt rule readRule statedBy
     walk-made-row =
-        result-eq (modulus t) LIMIT (look t) (formed-below (modulus t) (look t) (formed t ok)) x ∙ ap (simplified (modulus t) LIMIT (freshRows t)) is
+        result-eq (modulus t) LIMIT (look t) (formed-below (modulus t) (look t) (formed t ok)) x ∙ by-name-bare (look t) x (ap statedBy is) _ ∙
+        ap (rule (modulus t) LIMIT (freshRows t) (rangeOf (modulus t) (freshRows t))) is
 
     -- it is document 01's walk, store by store, and nothing else is (`follows-only`)
     pub follows : Follows (freshRows t) (ranges t) i LIMIT m (stores t m i) (walked t m i)

@@ -22,10 +22,11 @@ use Rattle.term.specs.Term.{Term, const, var, shift, sum, diff, neg, read, fres
 use Rattle.term.specs.Relation.{rangeOf}
 use Rattle.term.specs.WellFormed.{Names, Below, WellFormed}
 use Rattle.term.specs.Bytes.{look}
-use Rattle.term.proofs.Accepted.{accepted-formed, accepted-unnamed}
+use Rattle.term.proofs.Accepted.{accepted-formed}
+use Rattle.term.proofs.Outcome.{run-names-small}
 use Rattle.term.proofs.Looked.{small-term}
 use Rattle.term.proofs.Placed.{put-rows-row}
-use Rattle.term.proofs.WellFormed.{formed-below, result-sort, result-formed, result-unnamed}
+use Rattle.term.proofs.WellFormed.{formed-below, result-sort, result-formed}
 use Rattle.text.specs.Text.{Put}
 use Rattle.simplify.specs.Answer.{LIMIT, modulus}
 use Rattle.simplify.specs.Copy.{Rooms}
@@ -70,7 +71,7 @@ module _ (t buffer : List ℕ) (x : ℕ) (can : Explainable t buffer x) where
   unfolding freshRows modulus
   fits-fields y l =
       small-term (2 ^ width t) y (pow-mono (ok .head .width-high)) (let few : rows t ≤ MOST = ok .head .few in omega arith) (freshRows t y) (formed .fits y)
-      (result-unnamed (2 ^ width t) LIMIT (pow-pos (width t)) (look t) (accepted-formed t ok) (accepted-unnamed t ok) y) (below y)
+      (run-names-small LIMIT t ok y) (below y)
 
   module _ {left store : List ℕ} {removed : ℕ} (run : Freshly t buffer left store removed) where
     long : length left ≡ length buffer

@@ -4,8 +4,9 @@
 use Prim.Native.Nat.{ℕ, _<_}
 use mathlib.Core.Path.{_≡_, sym, ap, _∙_, subst}
 use Rattle.range.specs.Range.{Within}
-use Rattle.term.specs.Term.{Term}
+use Rattle.term.specs.Term.{Term, statedBy}
 use Rattle.term.specs.declared.Relation.the-variants.{Same, Apart}
+use Rattle.term.specs.Seen.{seen}
 use Rattle.term.specs.Relation.{rangeOf, related}
 use Rattle.term.specs.Walk.{Walk}
 use Rattle.term.specs.Reason.{reason, met}
@@ -13,18 +14,29 @@ use Rattle.term.specs.Result.{result}
 use Rattle.term.specs.WellFormed.{WellFormed}
 use Rattle.term.proofs.Follows.{Each}
 use Rattle.term.proofs.Renewed.{result-below}
-use Rattle.term.proofs.WellFormed.{formed-below}
+use Rattle.term.proofs.Seen.{seen-own, seen-states}
+use Rattle.term.proofs.WellFormed.{formed-below, result-states}
 use Rattle.meaning.specs.Meaning.{Choice, Permitted, Meaning, meaningBy, meaning, value, content}
 use Rattle.meaning.proofs.Model.{Bounds, Model}
 use Rattle.meaning.proofs.Relations.{Says, range-in, related-says}
 use Rattle.meaning.proofs.Reasons.{Explains, reason-explains, step-explains}
 use Rattle.meaning.proofs.RuleGood.{result-model}
 use Rattle.meaning.proofs.Meanings.{meaning-only, meaning-words, meaning-model}
+use Rattle.meaning.proofs.Seen.{seen-model}
 
 module _ (M limit : ℕ) (pos : 0 < M) (t : ℕ → Term) (formed : WellFormed M t) (choice : Choice) (permitted : Permitted M t choice) where
   -- the table's meanings are a model of its result
   model : Model M choice (result M limit t) (meaning M choice t)
-  model = result-model M choice (meaning M choice t) limit t (meaning-model M pos t formed choice permitted)
+  model = result-model M choice (meaning M choice t) limit t (seen-model M t choice permitted (meaning M choice t) table) table
+    where
+      table : Model M choice t (meaning M choice t)
+      table = meaning-model M pos t formed choice permitted
+
+  -- where a result row states a name, it is that of its original
+  stated : (x : ℕ) → (statedBy (result M limit t x) ≡ 0 → ⊥) → statedBy (result M limit t x) ≡ statedBy (t x)
+  stated x named =
+      let read : statedBy (result M limit t x) ≡ statedBy (seen t x) = result-states M limit pos t formed x in
+      read ∙ ap statedBy (seen-own t x (seen-states t x (λ e. named (read ∙ e))))
 
   -- the choice is one for the result too
   pub run-permits : Permitted M (result M limit t) choice
@@ -36,6 +48,9 @@ module _ (M limit : ℕ) (pos : 0 < M) (t : ℕ → Term) (formed : WellFormed M
             subst (λ v. v < M)
             (ap (λ (m : Meaning). m .content i) (sym (model .rows x .means) ∙ ap (meaningBy M choice (meaning M choice t) x) e))
             (meaning-words M pos t formed choice permitted x .content-below i);
+        one-value = λ x y named same.
+            let own : statedBy (result M limit t x) ≡ statedBy (t x) = stated x named in
+            permitted .one-value x y (λ e. named (own ∙ e)) (sym own ∙ same ∙ stated y (λ e. named (same ∙ e)));
       }
 
   -- and by it each result row has its original's meaning

@@ -7,5 +7,6 @@ pub mod Reasons
 pub mod Arrays
 pub mod RuleGood
 pub mod Meanings
+pub mod Seen
 pub mod Demand2
 pub mod Choices

@@ -1,17 +1,18 @@
 -- The rule's row holds where its original holds, with the same meaning: all nine kinds, every limit, any rows f that the meanings are a
--- model of, any ranges that hold the values. So a model of the table stays a model of the rows as they are made.
+-- model of, any ranges that hold the values. So a model of the table as it is read stays a model of the rows as they are made.
 use Prim.Native.Nat.{ℕ, zero, suc}
 use mathlib.Core.Path.{sym, subst}
 use mathlib.Core.Bool.{Bool, true, cond}
 use lib.Dec.{eqb}
 use borrow.Author.Tests.{eqb-true}
 use Rattle.basis.specs.Build.{put, grow, grown}
-use Rattle.basis.proofs.Pick.{pick-case}
+use Rattle.basis.proofs.Pick.{pick-case, pick-along}
 use Rattle.range.specs.declared.Range.{Range}
 use Rattle.term.specs.Term.{Term, const, var, shift, sum, diff, neg, read, fresh, write}
+use Rattle.term.specs.Seen.{isLater, byName, seen}
 use Rattle.term.specs.Relation.{rangeOf}
 use Rattle.term.specs.Rule.{rule}
-use Rattle.term.specs.Result.{simplified, renewed, result}
+use Rattle.term.specs.Result.{ruleAt, simplified, renewed, result}
 use Rattle.meaning.specs.Meaning.{Choice, Meaning, meaningBy}
 use Rattle.meaning.proofs.Model.{Holds, Model, Contained}
 use Rattle.meaning.proofs.Relations.{range-in}
@@ -35,9 +36,13 @@ module _ (M : ℕ) (choice : Choice) (of : ℕ → Meaning) where
     rule-good limit g held x (write m i e) v h =
         subst (Holds M choice of x _) (h .means) (write-holds M choice f of model g held x m i e)
 
-    simplified-good : (limit x : ℕ) (t : Term) (v : Meaning) → Holds M choice of x t v → Holds M choice of x (simplified M limit f t) v
-    unfolding simplified
-    simplified-good limit = rule-good limit (rangeOf M f) (range-in M choice f of model)
+    -- for a row as it is read: a later VAR of a name is one and the same row there and in the result
+    simplified-good : (limit : ℕ) (t : ℕ → Term) (x : ℕ) (v : Meaning)
+        → Holds M choice of x (seen t x) v → Holds M choice of x (simplified M limit t f x) v
+    unfolding simplified ruleAt seen byName
+    simplified-good limit t x v =
+        pick-along (λ u. Holds M choice of x u v) (isLater t x) _
+        (rule-good limit (rangeOf M f) (range-in M choice f of model) x (t x) v)
 
     -- with a row that holds in the place of row n
     put-model : (n : ℕ) (t : Term) → Holds M choice of n t (of n) → Model M choice (put f n t) of
@@ -52,21 +57,21 @@ module _ (M : ℕ) (choice : Choice) (of : ℕ → Meaning) where
               (λ _. model .rows x);
         }
 
-  -- a model of the table and of the rows that stood there is a model of the rows renewed, whichever are touched
-  module _ (limit : ℕ) (touched : ℕ → Bool) (t kept : ℕ → Term) (table : Model M choice t of) (stood : Model M choice kept of) where
-    grow-model : (n : ℕ) → Model M choice (grow (λ f x. cond (touched x) (simplified M limit f (t x)) (f x)) kept n) of
+  -- a model of the table as it is read and of the rows that stood there is a model of the rows renewed, whichever are touched
+  module _ (limit : ℕ) (touched : ℕ → Bool) (t kept : ℕ → Term) (table : Model M choice (seen t) of) (stood : Model M choice kept of) where
+    grow-model : (n : ℕ) → Model M choice (grow (λ f x. cond (touched x) (simplified M limit t f x) (f x)) kept n) of
     unfolding grow
     grow-model zero = stood
     grow-model (suc n) =
         put-model _ (grow-model n) n _
         (pick-case (λ s. Holds M choice of n s (of n)) (touched n)
-        (λ _. simplified-good _ (grow-model n) limit n (t n) (of n) (table .rows n))
+        (λ _. simplified-good _ (grow-model n) limit t n (of n) (table .rows n))
         (λ _. grow-model n .rows n))
 
     pub renewed-model : Model M choice (renewed M limit touched t kept) of
     unfolding renewed grown
     renewed-model = record { pos = table .pos; words = table .words; rows = λ x. grow-model (suc x) .rows x }
 
-  pub result-model : (limit : ℕ) (t : ℕ → Term) → Model M choice t of → Model M choice (result M limit t) of
+  pub result-model : (limit : ℕ) (t : ℕ → Term) → Model M choice (seen t) of → Model M choice t of → Model M choice (result M limit t) of
   unfolding result
-  result-model limit t table = renewed-model limit (λ x. true) t t table table
+  result-model limit t = renewed-model limit (λ x. true) t t

@@ -5,17 +5,18 @@ use mathlib.Core.Bool.{cond}
 use lib.Dec.{eqb}
 use Rattle.basis.specs.Build.{grown}
 use Rattle.word.specs.Word.{plus, minus}
-use Rattle.term.specs.Term.{Term, const, var, shift, sum, diff, neg, read, fresh, write}
+use Rattle.term.specs.Term.{Term, const, var, shift, sum, diff, neg, read, fresh, write, statedBy}
 
 -- a choice: a word for each VAR row, and a content, a word at each index, for each FRESH row
 pub record Choice : Type 0 where
   pub word : ℕ → ℕ
   pub array : ℕ → ℕ → ℕ
 
--- the choice keeps to the bounds of every VAR row of the table t, and every content is of words
+-- the choice keeps to the bounds of every VAR row of the table t, every content is of words, and one name is given one value (document 02, A2)
 pub record Permitted (M : ℕ) (t : ℕ → Term) (choice : Choice) : Type 0 where
   pub bounds : (x name k h : ℕ) → t x ≡ var name k h → (k ≤ choice .word x) × (choice .word x ≤ h)
   pub words : (x i : ℕ) → t x ≡ fresh → choice .array x i < M
+  pub one-value : (x y : ℕ) → (statedBy (t x) ≡ 0 → ⊥) → statedBy (t x) ≡ statedBy (t y) → choice .word x ≡ choice .word y
 
 -- what a row means: a word row its value, an array row its content
 pub record Meaning : Type 0 where

@@ -21,11 +21,11 @@ unfolding rowAt rowFrom
 row-small t r all =
     record {
       kind = all (place r + KIND);
-      a = number-below 2 t (place r + A) all;
-      b = number-below 2 t (place r + B) all;
-      c = number-below 2 t (place r + C) all;
-      k = number-below 8 t (place r + K) all;
-      h = number-below 8 t (place r + H) all;
+      a = number-below 2 t (place r + A);
+      b = number-below 2 t (place r + B);
+      c = number-below 2 t (place r + C);
+      k = number-below 8 t (place r + K);
+      h = number-below 8 t (place r + H);
     }
 
 pub mark-right : (t : List ℕ) (i : ℕ) → markWrong t i ≡ false → (byte t i ≡ MARK-0) × (byte t (i + 1) ≡ MARK-1) × (byte t (i + ZERO) ≡ 0)
@@ -91,6 +91,6 @@ unfolding rowAt sourceAt
 row-bytes t all r room mark = all-bytes t all (place r) room mark
 
 -- a source fits its field
-pub source-small : (t : List ℕ) (r : ℕ) → AllBytes t → sourceAt t r < 2 ^ 32
+pub source-small : (t : List ℕ) (r : ℕ) → sourceAt t r < 2 ^ 32
 unfolding sourceAt
-source-small t r all = number-below 4 t (place r + SOURCE) all
+source-small t r = number-below 4 t (place r + SOURCE)

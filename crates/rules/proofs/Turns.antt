@@ -1,6 +1,5 @@
 -- One turn of a run: the row that is settled, and what stands afterwards. Assumes nothing.
 use Prim.Native.Nat.{ℕ, suc, _^_, _≤_, _<_}
-use native.Mathlib.Nat.{lt-of-lt-of-le}
 use native.Mathlib.Omega.{arith}
 use native.Mathlib.Decide.{decLt}
 use mathlib.Core.Path.{_≡_, sym, ap, _∙_}
@@ -15,101 +14,107 @@ use Rattle.range.specs.Range.{span, point, Proper}
 use Rattle.range.specs.Store.{kept, keep}
 use Rattle.range.proofs.Kept.{keep-length, keep-same, keep-other}
 use Rattle.row.specs.declared.Row.{Row}
-use Rattle.row.specs.Names.{place}
+use Rattle.row.specs.Names.{SHIFT, place}
 use Rattle.bytes.specs.Numbers.{Read}
-use Rattle.row.specs.Bytes.{rowAt, sourceAt, putRow, Small, Decoded}
+use Rattle.row.specs.Bytes.{row, rowAt, sourceAt, putRow, Small, Decoded}
 use Rattle.row.proofs.Rows.{put-read}
 use Rattle.table.specs.Refusals.{MOST}
-use Rattle.term.specs.Term.{Term, const, var, shift, sum, diff, neg, read, fresh, write, termOf, rowOf, isArray}
+use Rattle.term.specs.Term.{Term, shift, fresh, write, termOf, rowOf, isArray}
 use Rattle.term.specs.WellFormed.{Fits}
 use Rattle.term.specs.Bytes.{look, putIf}
+use Rattle.term.specs.Seen.{isLater, seen}
 use Rattle.term.specs.Rule.{rule}
+use Rattle.term.specs.Result.{ruleAt}
 use Rattle.term.proofs.Rows.{term-row}
 use Rattle.term.proofs.Names.{names-widen, names-both}
-use Rattle.term.proofs.Inside.{rule-in}
-use Rattle.term.proofs.WellFormed.{Unnamed, rule-stands}
-use Rattle.term.proofs.Looked.{small-term}
+use Rattle.term.proofs.Inside.{rule-at-in}
+use Rattle.term.proofs.WellFormed.{rule-at-stands}
+use Rattle.term.proofs.Seen.{seen-own, seen-small, is-later, no-later, by-name-own, by-name-later}
+use Rattle.term.proofs.Looked.{name-small, small-term}
 use Rattle.term.proofs.Placed.{length-put-if, put-if-other}
-use Rattle.walks.specs.Ready.{NamesBelow, SortsIn, Standing, Sorted, Linked}
-use Rattle.walks.proofs.Terms.{term-case}
+use Rattle.walks.specs.Ready.{NamesBelow, SortsIn, Standing, Linked}
 use Rattle.walks.proofs.Reach.{rows-closed, sorts-closed}
 use Rattle.rules.specs.Ready.{Asked, Traced, Ranging}
 use Rattle.rules.specs.Written.{entry, origin, CanWrite, settled, becomes, Settled, Written}
 use Rattle.rules.proofs.RowRanges.{WordsProper, words-proper, entry-proper, entry-store, entry-end}
 
--- ---- the row that the rules make fits its fields
-
--- a name, which may be any, fits its field
-abbrev NameSmall : Term → Type 0
-NameSmall (const k) = Unit {0}
-NameSmall (var name k h) = name < 65536
-NameSmall (shift a k) = Unit {0}
-NameSmall (sum a b k) = Unit {0}
-NameSmall (diff a b k) = Unit {0}
-NameSmall (neg a k) = Unit {0}
-NameSmall (read a b) = Unit {0}
-NameSmall fresh = Unit {0}
-NameSmall (write a b c) = Unit {0}
-
-row-name-small : (x : Row) → Small x → NameSmall (termOf x)
-row-name-small x small = term-case NameSmall x tt tt (small .a) tt tt tt tt tt tt (λ e. tt)
-
-module _ (R : List ℕ) (r : ℕ) (rows : Standing R r) where
-  module _ (M limit : ℕ) (g : ℕ → Range) (pos : 0 < M) (words : M ≤ 2 ^ 64) where
-    abbrev made : Term → Term
-    made t = rule M limit (look R) g t
-
-    made-names : (t : Term) → NamesBelow r t → NamesBelow r (made t)
-    made-names t n = rule-in (λ array y. y < r) (look R) (rows-closed R r rows) M limit g t n
-
-    made-sorts : Sorted R r → (t : Term) → NamesBelow r t → SortsIn R t → SortsIn R (made t)
-    made-sorts sorted t n m =
-        names-widen (made t) (λ (s : Bool) (y : ℕ) (h : (y < r) × (isArray (look R y) ≡ s)). h .1)
-        (rule-in (λ array y. (y < r) × (isArray (look R y) ≡ array)) (look R) (sorts-closed R r rows sorted) M limit g t
-        (names-both (λ array y. y < r) (λ array y. isArray (look R y) ≡ array) t n m))
-
-    made-fits : (t : Term) → Fits M t → Fits M (made t)
-    made-fits t f = rule-stands M pos limit (look R) g t f .0
-
-    unnamed-small : (t : Term) → Unnamed t → Fits M t → NamesBelow r t → Small (rowOf (made t))
-    unnamed-small t u f n =
-        small-term M r words (omega (arith, rows .few)) (made t) (made-fits t f) (rule-stands M pos limit (look R) g t f .2 u) (made-names t n)
-
-    made-small : (t : Term) → NameSmall t → Fits M t → NamesBelow r t → Small (rowOf (made t))
-    unfolding rule rowOf
-    made-small (const k) s f n = unnamed-small (const k) tt f n
-    made-small (var name k h) s f n =
-        record {
-          kind = lit< tt;
-          a = s;
-          b = lit< tt;
-          c = lit< tt;
-          k = omega (arith, f .0, f .1, words);
-          h = lt-of-lt-of-le (f .1) words;
-        }
-    made-small (shift a k) s f n = unnamed-small (shift a k) tt f n
-    made-small (sum a b k) s f n = unnamed-small (sum a b k) tt f n
-    made-small (diff a b k) s f n = unnamed-small (diff a b k) tt f n
-    made-small (neg a k) s f n = unnamed-small (neg a k) tt f n
-    made-small (read a b) s f n = unnamed-small (read a b) tt f n
-    made-small fresh s f n = unnamed-small fresh tt f n
-    made-small (write a b c) s f n = unnamed-small (write a b c) tt f n
-
--- ---- settling a row
+-- ---- the row that is made
 
 module _ (T : List ℕ) (r : ℕ) (x : Row) where
   pub decoded-term : Decoded T r x → termOf x ≡ look T r
   unfolding look
   decoded-term d = ap termOf (d .is)
 
-module _ (T R S : List ℕ) (w limit r : ℕ) (touched : Bool) (given : CanWrite T R S w r touched) where
+-- of a touched row
+module _ (T R S : List ℕ) (w limit r first : ℕ) (given : CanWrite T R S w r first true) where
+  abbrev row-made : Term
+  row-made = ruleAt (2 ^ w) limit (look T) (look R) (kept S) r
+
+  abbrev read-row : Term
+  read-row = seen (look T) r
+
+  read-fits : Fits (2 ^ w) read-row
+  unfolding origin
+  read-fits = given .fits
+
+  read-names : NamesBelow r read-row
+  unfolding origin
+  read-names = given .names
+
+  read-sorts : SortsIn R read-row
+  unfolding origin
+  read-sorts = given .sorts
+
+  made-fits : Fits (2 ^ w) row-made
+  made-fits = rule-at-stands (2 ^ w) (pow-pos w) limit (look T) (look R) (kept S) r read-fits .0
+
+  made-names : NamesBelow r row-made
+  made-names = rule-at-in (λ array y. y < r) (look R) (rows-closed R r (given .rows)) (2 ^ w) limit (kept S) (look T) r read-names
+
+  made-sorts : SortsIn R row-made
+  made-sorts =
+      names-widen row-made (λ (s : Bool) (y : ℕ) (h : (y < r) × (isArray (look R y) ≡ s)). h .1)
+      (rule-at-in (λ array y. (y < r) × (isArray (look R y) ≡ array)) (look R) (sorts-closed R r (given .rows) (given .sorted)) (2 ^ w) limit (kept S) (look T) r
+      (names-both (λ array y. y < r) (λ array y. isArray (look R y) ≡ array) read-row read-names read-sorts))
+
+  -- it fits its fields
+  made-small : Small (rowOf row-made)
+  made-small =
+      small-term (2 ^ w) r (pow-mono (given .width)) (omega (arith, given .rows .few)) row-made made-fits
+      (rw (rule-at-stands (2 ^ w) (pow-pos w) limit (look T) (look R) (kept S) r read-fits .2) (seen-small (look T) 65536 (lit< tt) (name-small T) r)) made-names
+
+  -- a later VAR of a name
+  pub made-later : first < r → {x : Row} → x ≡ row SHIFT first 0 0 0 0 → x ≡ rowOf (ruleAt (2 ^ w) limit (look T) (look R) (kept S) r)
+  unfolding ruleAt rowOf
+  made-later l e =
+      e ∙
+      ap (λ (y : ℕ). rowOf (shift y 0)) (given .first-is) ∙
+      ap rowOf (sym (by-name-later (look T) r (is-later (look T) r (rw (given .first-is) at l)) _))
+
+  -- every other row, as it is decoded
+  module _ (own : r ≤ first) (y : Row) (row : Decoded T r y) where
+    not-later : isLater (look T) r ≡ false
+    not-later = no-later (look T) r (rw (given .first-is) at own)
+
+    read-is : read-row ≡ termOf y
+    read-is = seen-own (look T) r not-later ∙ sym (decoded-term T r y row)
+
+    pub made-asks : Asked R w r (termOf y)
+    made-asks = record { rows = given .rows; width = given .width; names = rw read-is at read-names }
+
+    pub made-traced : Traced R S r (termOf y)
+    made-traced = record { links = given .links; sorted = given .sorted; sorts = rw read-is at read-sorts }
+
+    pub made-own : {x : Row} → x ≡ rowOf (rule (2 ^ w) limit (look R) (kept S) (termOf y)) → x ≡ rowOf (ruleAt (2 ^ w) limit (look T) (look R) (kept S) r)
+    unfolding ruleAt
+    made-own e = e ∙ ap (λ (u : Term). rowOf (rule (2 ^ w) limit (look R) (kept S) u)) (decoded-term T r y row) ∙ ap rowOf (sym (by-name-own (look T) r not-later _))
+
+-- ---- settling a row
+
+module _ (T R S : List ℕ) (w limit r first : ℕ) (touched : Bool) (given : CanWrite T R S w r first touched) where
   origin-kept : touched ≡ false → origin T R r touched ≡ look R r
   unfolding origin
   origin-kept e = rw e
-
-  origin-made : touched ≡ true → origin T R r touched ≡ look T r
-  unfolding origin
-  origin-made e = rw e
 
   pub settle-kept : (x : Row) → touched ≡ false → Decoded R r x → Settled T R R S w limit r touched x
   unfolding settled becomes putIf
@@ -124,63 +129,40 @@ module _ (T R S : List ℕ) (w limit r : ℕ) (touched : Bool) (given : CanWrite
         sorts = rw same at (given .sorts);
       }
 
-  module _ (y : Row) (test : touched ≡ true) (row : Decoded T r y) where
-    same-made : origin T R r touched ≡ termOf y
-    same-made = origin-made test ∙ sym (decoded-term T r y row)
+  pub settle-makes : touched ≡ true → CanWrite T R S w r first true
+  settle-makes e = rw e at given
 
-    fits-made : Fits (2 ^ w) (termOf y)
-    fits-made = rw same-made at (given .fits)
+  module _ (test : touched ≡ true) (x : Row) (is : x ≡ rowOf (ruleAt (2 ^ w) limit (look T) (look R) (kept S) r)) where
+    term-made : termOf x ≡ ruleAt (2 ^ w) limit (look T) (look R) (kept S) r
+    term-made = ap termOf is ∙ term-row (ruleAt (2 ^ w) limit (look T) (look R) (kept S) r)
 
-    names-made : NamesBelow r (termOf y)
-    names-made = rw same-made at (given .names)
-
-    sorts-made : SortsIn R (termOf y)
-    sorts-made = rw same-made at (given .sorts)
-
-    pub settle-asks : Asked R w r (termOf y)
-    settle-asks = record { rows = given .rows; width = given .width; names = names-made }
-
-    pub settle-traced : Traced R S r (termOf y)
-    settle-traced = record { links = given .links; sorted = given .sorted; sorts = sorts-made }
-
-    module _ (x : Row) (is : x ≡ rowOf (rule (2 ^ w) limit (look R) (kept S) (termOf y))) where
-      term-made : termOf x ≡ rule (2 ^ w) limit (look R) (kept S) (termOf y)
-      term-made = ap termOf is ∙ term-row (rule (2 ^ w) limit (look R) (kept S) (termOf y))
-
-      small-made : Small x
-      small-made =
-          rw is
-          (made-small R r (given .rows) (2 ^ w) limit (kept S) (pow-pos w) (pow-mono (given .width))
-          (termOf y) (row-name-small y (row .small)) fits-made names-made)
-
-      pub settle-made : (R′ : List ℕ) (source : ℕ) → Read (sourceAt T r) (2 ^ 32) source → R′ ≡ putRow R r x source → Settled T R R′ S w limit r touched x
-      unfolding settled becomes putIf look
-      settle-made R′ source carried e =
-          record {
-            result = e ∙ rw (test, is, decoded-term T r y row, carried .is);
-            row = ap termOf (sym (put-read R r x source (given .room) small-made)) ∙ rw e;
-            becomes = rw test (term-made ∙ ap (rule (2 ^ w) limit (look R) (kept S)) (decoded-term T r y row));
-            fits = rw term-made (made-fits R r (given .rows) (2 ^ w) limit (kept S) (pow-pos w) (pow-mono (given .width)) (termOf y) fits-made);
-            names = rw term-made (made-names R r (given .rows) (2 ^ w) limit (kept S) (pow-pos w) (pow-mono (given .width)) (termOf y) names-made);
-            sorts =
-                rw term-made
-                (made-sorts R r (given .rows) (2 ^ w) limit (kept S) (pow-pos w) (pow-mono (given .width)) (given .sorted) (termOf y) names-made sorts-made);
-          }
+    pub settle-made : (R′ : List ℕ) (source : ℕ) → Read (sourceAt T r) (2 ^ 32) source → R′ ≡ putRow R r x source → Settled T R R′ S w limit r touched x
+    unfolding settled becomes putIf look
+    settle-made R′ source carried e =
+        let given′ : CanWrite T R S w r first true = settle-makes test in
+        record {
+          result = e ∙ rw (test, is, carried .is);
+          row = ap termOf (sym (put-read R r x source (given .room) (rw is (made-small T R S w limit r first given′)))) ∙ rw e;
+          becomes = rw test term-made;
+          fits = rw term-made (made-fits T R S w limit r first given′);
+          names = rw term-made (made-names T R S w limit r first given′);
+          sorts = rw term-made (made-sorts T R S w limit r first given′);
+        }
 
 -- ---- what stands after the turn
 
-module _ (T R R′ S : List ℕ) (w limit r : ℕ) (touched : Bool) (x : Row)
-    (given : CanWrite T R S w r touched) (done : Settled T R R′ S w limit r touched x) where
+module _ (T R R′ S : List ℕ) (w limit r first : ℕ) (touched : Bool) (x : Row)
+    (given : CanWrite T R S w r first touched) (done : Settled T R R′ S w limit r touched x) where
   settled-length : length R′ ≡ length R
   unfolding settled
   settled-length =
-      ap length (done .result) ∙ length-put-if R r (rowOf (rule (2 ^ w) limit (look R) (kept S) (look T r))) (sourceAt T r) touched
+      ap length (done .result) ∙ length-put-if R r (rowOf (ruleAt (2 ^ w) limit (look T) (look R) (kept S) r)) (sourceAt T r) touched
 
   settled-other : (y : ℕ) → y ≢ r → look R′ y ≡ look R y
   unfolding settled look
   settled-other y h =
       ap (λ (l : List ℕ). termOf (rowAt l y)) (done .result)
-      ∙ ap termOf (put-if-other R r (rowOf (rule (2 ^ w) limit (look R) (kept S) (look T r))) (sourceAt T r) touched y h)
+      ∙ ap termOf (put-if-other R r (rowOf (ruleAt (2 ^ w) limit (look T) (look R) (kept S) r)) (sourceAt T r) touched y h)
 
   settled-names : (y : ℕ) → y < suc r → NamesBelow y (look R′ y)
   settled-names y l =

@@ -14,7 +14,8 @@ use Rattle.table.specs.Refusals.{MOST}
 use Rattle.term.specs.Term.{Term, const, var, shift, sum, diff, neg, read, fresh, write, termOf, rowOf}
 use Rattle.term.specs.Bytes.{look, putIf}
 use Rattle.term.specs.Relation.{rangeBy}
-use Rattle.term.specs.Rule.{rule}
+use Rattle.term.specs.Seen.{firstRow, seen}
+use Rattle.term.specs.Result.{ruleAt}
 use Rattle.term.specs.WellFormed.{Fits}
 use Rattle.walks.specs.Ready.{NamesBelow, SortsIn, Standing, Sorted, Linked}
 use Rattle.rules.specs.Ready.{Ranged}
@@ -32,11 +33,12 @@ entry M g (read a b) = rangeBy M g (read a b)
 entry M g fresh = point MOST
 entry M g (write a b c) = span a b
 
--- what row r is worked out from: the table's row where it is touched, else the result's as it stands
+-- what row r is worked out from: the table's row, as it is read, where it is touched, else the result's as it stands
 unfoldable pub origin : List ℕ → List ℕ → ℕ → Bool → Term
-origin T R r touched = cond touched (look T r) (look R r)
+origin T R r touched = cond touched (seen (look T) r) (look R r)
 
-pub record CanWrite (T R S : List ℕ) (w r : ℕ) (touched : Bool) : Type 0 where
+-- `first` is the first row of the name of row r of the table
+pub record CanWrite (T R S : List ℕ) (w r first : ℕ) (touched : Bool) : Type 0 where
   pub width : w ≤ 64
   pub few : r < MOST
   pub table-room : place r + LENGTH ≤ length T
@@ -48,14 +50,15 @@ pub record CanWrite (T R S : List ℕ) (w r : ℕ) (touched : Bool) : Type 0 whe
   pub fits : Fits (2 ^ w) (origin T R r touched)
   pub names : NamesBelow r (origin T R r touched)
   pub sorts : SortsIn R (origin T R r touched)
+  pub first-is : first ≡ firstRow (look T) r
 
 -- the bytes of the result with row r settled: a row that is made carries the source of the table's row
 unfoldable pub settled : List ℕ → List ℕ → List ℕ → ℕ → ℕ → ℕ → Bool → List ℕ
-settled T R S w limit r touched = putIf touched r (rowOf (rule (2 ^ w) limit (look R) (kept S) (look T r))) (sourceAt T r) R
+settled T R S w limit r touched = putIf touched r (rowOf (ruleAt (2 ^ w) limit (look T) (look R) (kept S) r)) (sourceAt T r) R
 
 -- the row that then stands there
 unfoldable pub becomes : List ℕ → List ℕ → List ℕ → ℕ → ℕ → ℕ → Bool → Term
-becomes T R S w limit r touched = cond touched (rule (2 ^ w) limit (look R) (kept S) (look T r)) (look R r)
+becomes T R S w limit r touched = cond touched (ruleAt (2 ^ w) limit (look T) (look R) (kept S) r) (look R r)
 
 -- x is that row
 pub record Settled (T R R′ S : List ℕ) (w limit r : ℕ) (touched : Bool) (x : Row) : Type 0 where

@@ -5,6 +5,8 @@ ghost use Rattle.range.specs.Store.{kept};
 ghost use Rattle.term.specs.Term.{termOf, rowOf};
 ghost use Rattle.term.specs.Bytes.{look};
 ghost use Rattle.term.specs.Rule.{rule};
+ghost use Rattle.term.specs.Result.{ruleAt};
+ghost use mathlib.Core.Bool.{true};
 ghost use Rattle.rules.specs.Ready.{Asked, Traced};
 ghost use Rattle.rules.specs.Written.{CanWrite, Settled, Written};
 use super::arrays::read_rule;
@@ -36,7 +38,26 @@ pub fn rewrite(result: &[u8], store: &[u64; 2048], w: u32, limit: usize, r: usiz
     }
 }
 
-// Settles result row r: the rewritten row r of the table, with its source, where that is touched, else the row that stands there. Returns it.
+// The result row of row r of a table: of a later VAR of a name SHIFT of the first by 0, of every other row what the rule of its kind makes.
+fn made(
+    table: &[u8],
+    result: &[u8],
+    store: &[u64; 2048],
+    w: u32,
+    limit: usize,
+    r: usize,
+    first: usize,
+) -> Row
+    requires { ⌜ CanWrite (now table) (now result) (now store) w r first true ⌝ }
+    ensures { λ x. ⌜ x ≡ rowOf (ruleAt (2 ^ w) limit (look (now (table .entry))) (look (now (result .entry))) (kept (now (store .entry))) r) ⌝ }
+{
+    if first < r {
+        return Row::make(Row::SHIFT, first, 0, 0, 0, 0);
+    }
+    rewrite(result, store, w, limit, r, Row::decode(table, r))
+}
+
+// Settles result row r: the row made of row r of the table, with its source, where that is touched, else the row that stands there. Returns it.
 fn settle(
     table: &[u8],
     result: &mut [u8],
@@ -44,20 +65,21 @@ fn settle(
     w: u32,
     limit: usize,
     r: usize,
+    first: usize,
     touched: bool,
 ) -> Row
-    requires { ⌜ CanWrite (now table) (now result) (now store) w r touched ⌝ }
+    requires { ⌜ CanWrite (now table) (now result) (now store) w r first touched ⌝ }
     ensures { λ x. ⌜ Settled (now (table .entry)) (now (result .entry)) (now (result .exit)) (now (store .entry)) w limit r touched x ⌝ }
 {
     if touched {
-        let x = rewrite(result, store, w, limit, r, Row::decode(table, r));
+        let x = made(table, result, store, w, limit, r, first);
         Row::put(result, r, x, Row::source_at(table, r));
         return x;
     }
     Row::decode(result, r)
 }
 
-// Settles result row r, and keeps its range, or of an array what a walk asks.
+// Settles result row r, and keeps its range, or of an array what a walk asks. `first` is the first row of the name of row r.
 pub fn write_row(
     table: &[u8],
     result: &mut [u8],
@@ -65,12 +87,13 @@ pub fn write_row(
     w: u32,
     limit: usize,
     r: usize,
+    first: usize,
     touched: bool,
 )
-    requires { ⌜ CanWrite (now table) (now result) (now store) w r touched ⌝ }
+    requires { ⌜ CanWrite (now table) (now result) (now store) w r first touched ⌝ }
     ensures { λ _. ⌜ Written (now (table .entry)) (now (result .entry)) (now (result .exit)) (now (store .entry)) (now (store .exit)) w limit r touched ⌝ }
 {
-    let x = settle(table, result, store, w, limit, r, touched);
+    let x = settle(table, result, store, w, limit, r, first, touched);
     let a = entry_of(store, w, r, x);
     range::save(store, r, a);
 }

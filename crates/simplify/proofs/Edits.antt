@@ -20,7 +20,7 @@ use Rattle.table.specs.Refusals.{rows, refuse, accepted, headReasons, checkRows
 use Rattle.table.proofs.Heads.{good-head}
 use Rattle.table.proofs.Faulty.{given-passes, given-refuses}
 use Rattle.term.specs.Result.{removedRows}
-use Rattle.term.specs.Bytes.{look}
+use Rattle.term.specs.Bytes.{look, edited}
 use Rattle.term.proofs.Acceptable.{same-rows}
 use Rattle.judge.specs.Verdict.{isAccepted}
 use Rattle.judge.specs.Edit.{keptPart, keptWrong, keptVerdict, editReasons}
@@ -29,7 +29,7 @@ use Rattle.judge.proofs.Verdicts.{accepted-is, table-passes, head-same}
 use Rattle.judge.proofs.Granted.{EditReady, edit-ready}
 use Rattle.simplify.specs.declared.Answer.{Answer}
 use Rattle.simplify.specs.Answer.{answer, answered}
-use Rattle.simplify.specs.Edit.{edited, editVerdict, editedRows, editedBytes, touchedRows, editAnswer, editTable, editKept, Edited}
+use Rattle.simplify.specs.Edit.{editVerdict, editedRows, editedBytes, touchedRows, editAnswer, editTable, editKept, Edited}
 use Rattle.simplify.specs.Patch.{CanTake, CanPut, CanPatch, Patched}
 use Rattle.simplify.proofs.Granted.{EditGranted, edit-granted}
 use Rattle.simplify.proofs.FreshRun.{accepted-answer}
@@ -140,22 +140,27 @@ module _ (t kept : List ℕ) (r : ℕ) (new : List ℕ) where
               passes : checkTable t′ ≡ accepted
               passes = table-passes t′ (keptVerdict t′ (keptPart t′ kept)) head (ap (λ (u : Verdict). u .number) (sym judged) ∙ fine)
 
-              pub edit-patches : CanPatch t′ kept r
+              pub edit-patches : CanPatch t′ old kept r
               edit-patches =
                   record {
                     table = passes;
+                    row = rw rows-same (ready .row);
+                    long = ap length taken ∙ row-long t r here;
                     room = rw long (ready .roomy .room);
                     right = ap₂ (λ (l m : List ℕ). keptWrong l m) put (sym parts) ∙ granted .kept-right;
                   }
 
-              pub edit-done : {a : Answer} {left : List ℕ} → Patched t′ kept r a left → Edited t kept r new a t′ left
+              pub edit-done : {a : Answer} {left : List ℕ} → Patched t′ old kept r a left → Edited t kept r new a t′ left
               unfolding editAnswer editTable editKept
               edit-done done =
                   record {
                     answer-is =
                         done .answer-is ∙
-                        ap₂ (λ (l : List ℕ) (n : ℕ). answer 0 0 (removedRows (look l) (editedRows l r kept) n) (touchedRows l r)) put rows-same ∙
-                        sym (rw (granted .verdict) (accepted-answer (removedRows (look (edited t r new)) (editedRows (edited t r new) r kept) (rows t)) (touchedRows (edited t r new) r)));
+                        ap (λ (b : List ℕ). answer 0 0 (removedRows (look t′) (editedRows b t′ r kept) (rows t′)) (touchedRows b t′ r)) back ∙
+                        ap₂ (λ (l : List ℕ) (n : ℕ). answer 0 0 (removedRows (look l) (editedRows t l r kept) n) (touchedRows t l r)) put rows-same ∙
+                        sym (rw (granted .verdict) (accepted-answer (removedRows (look (edited t r new)) (editedRows t (edited t r new) r kept) (rows t)) (touchedRows t (edited t r new) r)));
                     table-is = put ∙ sym (pick-true (isAccepted (editVerdict t kept r new)) (edited t r new) t yes);
-                    kept-is = done .kept-is ∙ ap (λ (l : List ℕ). editedBytes l r kept) put ∙ sym (pick-true (isAccepted (editVerdict t kept r new)) (editedBytes (edited t r new) r kept) kept yes);
+                    kept-is =
+                        done .kept-is ∙ ap₂ (λ (b l : List ℕ). editedBytes b l r kept) back put ∙
+                        sym (pick-true (isAccepted (editVerdict t kept r new)) (editedBytes t (edited t r new) r kept) kept yes);
                   }

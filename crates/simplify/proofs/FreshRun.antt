@@ -20,7 +20,7 @@ use Rattle.term.specs.Result.{result, removedRows}
 use Rattle.term.specs.Bytes.{look}
 use Rattle.term.proofs.Names.{NamesBelow}
 use Rattle.term.proofs.Placed.{length-put-rows}
-use Rattle.term.proofs.WellFormed.{formed-below, formed-sorts}
+use Rattle.term.proofs.WellFormed.{formed-below}
 use Rattle.term.proofs.Accepted.{accepted-formed}
 use Rattle.marks.specs.Marks.{marked}
 use Rattle.marks.proofs.Marks.{all-marked}
@@ -68,9 +68,7 @@ module _ (t buffer store : List ℕ) (can : CanFresh t buffer store) where
         store-long = can .long;
         table-room = rw (ok .head .size) (native.Mathlib.Nat.le-refl (place (rows t)));
         room = rw length-sets (rw (← ok .head .size) (can .room));
-        fits = accepted-formed t ok .fits;
-        names = low;
-        sorts = formed-sorts (2 ^ width t) (look t) (accepted-formed t ok);
+        formed = accepted-formed t ok;
         kept-fits = λ x l e. absurd (true≢false (sym (marks .all x (omega arith)) ∙ e));
         kept-names = λ x l e. absurd (true≢false (sym (marks .all x (omega arith)) ∙ e));
         kept-sorts = λ x l e. absurd (true≢false (sym (marks .all x (omega arith)) ∙ e));

@@ -12,7 +12,7 @@ use Rattle.table.specs.declared.Verdict.{Verdict}
 use Rattle.table.specs.Refusals.{rows, accepted, given, checkRows, checkTable}
 use Rattle.table.proofs.Faulty.{given-passes}
 use Rattle.term.specs.Term.{isArray}
-use Rattle.term.specs.Bytes.{look}
+use Rattle.term.specs.Bytes.{look, edited}
 use Rattle.judge.specs.Verdict.{isAccepted}
 use Rattle.judge.specs.Run.{roomReasons}
 use Rattle.judge.specs.Edit.{keptPart, keptWrong, keptVerdict, editReasons}
@@ -20,7 +20,7 @@ use Rattle.judge.specs.Compare.{pairReasons, arrayReasons, arrayVerdict}
 use Rattle.judge.specs.Judge.{PairThere}
 use Rattle.judge.proofs.Verdicts.{is-accepted, given-number, given-after, rows-pass, rows-after, table-passes}
 use Rattle.judge.proofs.Granted.{Roomy, roomy, room-numbered, EditReady, edit-ready}
-use Rattle.simplify.specs.Edit.{edited, editVerdict}
+use Rattle.simplify.specs.Edit.{editVerdict}
 use Rattle.simplify.specs.Compare.{compareVerdict}
 
 pub record EditGranted (t kept : List ℕ) (r : ℕ) (x : List ℕ) : Type 0 where

@@ -18,7 +18,7 @@ use Rattle.term.proofs.Placed.{put-rows-same}
 use Rattle.marks.specs.Marks.{marked}
 use Rattle.simplify.specs.Answer.{LIMIT}
 use Rattle.simplify.specs.Renew.{standing, outcome, CanRenew}
-use Rattle.simplify.proofs.Renewing.{out-eq, out-below}
+use Rattle.simplify.proofs.Renewing.{table-below, out-eq, out-below}
 
 -- removed is counted alike over rows that agree
 pub removed-same : (t f f′ : ℕ → Term) (n : ℕ) → ((x : ℕ) → x < n → f x ≡ f′ x) → removedRows t f n ≡ removedRows t f′ n
@@ -31,10 +31,10 @@ module _ (T R S marks : List ℕ) (w n : ℕ) (can : CanRenew T R S marks w n) (
   pub outcome-is : (x : ℕ) → x < n → outcome T R (marked marks) w n x ≡ renewed (2 ^ w) LIMIT touched (look T) kept x
   unfolding standing
   outcome-is =
-      renewed-only-below (2 ^ w) LIMIT touched (look T) kept (can .names) below (outcome T R (marked marks) w n) n
+      renewed-only-below (2 ^ w) LIMIT touched (look T) kept (table-below T R S marks w n can) below (outcome T R (marked marks) w n) n
       (λ x l.
       out-eq T R S marks w n can x ∙
-      ap (λ (b : Bool). cond b (simplified (2 ^ w) LIMIT (outcome T R (marked marks) w n) (look T x)) (standing R n x)) (marks-are x l) ∙
+      ap (λ (b : Bool). cond b (simplified (2 ^ w) LIMIT (look T) (outcome T R (marked marks) w n) x) (standing R n x)) (marks-are x l) ∙
       pick-alike (touched x) (λ (e : touched x ≡ true). refl) (λ (e : touched x ≡ false). rw (lt-ltb x n l) (kept-is x l e)))
 
   -- their ranges

@@ -16,11 +16,11 @@ use Rattle.table.specs.Refusals.{width, rows, checkTable}
 use Rattle.table.specs.Accepted.{Accepted}
 use Rattle.table.proofs.Accepts.{accepted-gives}
 use Rattle.term.specs.Term.{isArray}
-use Rattle.term.specs.Result.{touchedBy, removedRows}
+use Rattle.term.specs.Result.{removedRows}
 use Rattle.term.specs.WellFormed.{Fits, Names, Below, WellFormed}
-use Rattle.term.specs.Bytes.{look}
+use Rattle.term.specs.Bytes.{look, edited}
 use Rattle.term.proofs.Names.{NamesBelow, names-widen}
-use Rattle.term.proofs.WellFormed.{formed-below, formed-sorts}
+use Rattle.term.proofs.WellFormed.{formed-below}
 use Rattle.term.proofs.Looked.{cut-look}
 use Rattle.term.proofs.Accepted.{accepted-formed}
 use Rattle.walks.specs.Ready.{SortsIn}
@@ -32,7 +32,7 @@ use Rattle.judge.specs.Edit.{keptPart, otherHeader, otherSorts, keptWrong}
 use Rattle.judge.proofs.Verdicts.{accepted-only}
 use Rattle.simplify.specs.Answer.{modulus, answer}
 use Rattle.simplify.specs.Renew.{CanRenew, Renewed}
-use Rattle.simplify.specs.Edit.{editedRows, editedBytes, touchedRows}
+use Rattle.simplify.specs.Edit.{isTouched, editedRows, editedBytes, touchedRows}
 use Rattle.simplify.specs.Patch.{CanPatch, Patched}
 use Rattle.simplify.proofs.FreshRun.{answer-is}
 use Rattle.simplify.proofs.Outcome.{bytes-are, removed-is}
@@ -43,7 +43,7 @@ alike true false e = absurd (true≢false e)
 alike false true e = absurd (true≢false e)
 alike false false e = refl
 
-module _ (t kept : List ℕ) (r : ℕ) (can : CanPatch t kept r) where
+module _ (t old kept : List ℕ) (r : ℕ) (can : CanPatch t old kept r) where
   ok : Accepted t
   ok = accepted-gives t (can .table)
 
@@ -83,11 +83,12 @@ module _ (t kept : List ℕ) (r : ℕ) (can : CanPatch t kept r) where
   part-sorts x l = names-widen (look part x) (λ s y (b : Below (look part) x s y). sym (same-sorts y (lt-trans (b .below) l)) ∙ b .sort) (part-formed .names x)
 
   module _ {n : ℕ} (rows-is : Read (rows t) 65536 n) where
-    pub patch-marks : CanMark t n (replicate 16 0)
-    patch-marks = record { ok = ok; few = rows-is .is; words = none-words; none = none-marked }
+    pub patch-marks : CanMark t old n r (replicate 16 0)
+    patch-marks = record { ok = ok; few = rows-is .is; row = rw (rows-is .is) (can .row); long = can .long; words = none-words; none = none-marked }
 
-    module _ {marks : List ℕ} {count w : ℕ} (done : Marked t r n marks count) (width-is : Read (width t) 256 w) where
-      marks-are : (x : ℕ) → x < rows t → marked marks x ≡ touchedBy (look t) r x
+    module _ {marks : List ℕ} {count w : ℕ} (done : Marked t old r n marks count) (width-is : Read (width t) 256 w) where
+      marks-are : (x : ℕ) → x < rows t → marked marks x ≡ isTouched (edited t r old) t r x
+      unfolding isTouched
       marks-are = rw (rows-is .is) at (done .marks-are)
 
       asked : (store : List ℕ) → length store ≡ 2048 → CanRenew t kept store marks (width t) (rows t)
@@ -98,9 +99,7 @@ module _ (t kept : List ℕ) (r : ℕ) (can : CanPatch t kept r) where
             store-long = long;
             table-room = rw (ok .head .size) (le-refl (place (rows t)));
             room = rw (← ok .head .size) (can .room);
-            fits = accepted-formed t ok .fits;
-            names = formed-below (2 ^ width t) (look t) (accepted-formed t ok);
-            sorts = formed-sorts (2 ^ width t) (look t) (accepted-formed t ok);
+            formed = accepted-formed t ok;
             kept-fits = λ x l e. subst (Fits (2 ^ width t)) (sym (part-look x l)) (part-formed .fits x);
             kept-names = λ x l e. subst (Names (λ array y. y < x)) (sym (part-look x l)) (part-below x);
             kept-sorts = λ x l e. subst (SortsIn t) (sym (part-look x l)) (part-sorts x l);
@@ -117,9 +116,7 @@ module _ (t kept : List ℕ) (r : ℕ) (can : CanPatch t kept r) where
             store-long = all .store-long;
             table-room = le-trans (place-grows fewer) (all .table-room);
             room = le-trans (place-grows fewer) (all .room);
-            fits = all .fits;
-            names = all .names;
-            sorts = all .sorts;
+            formed = all .formed;
             kept-fits = λ x l. all .kept-fits x (lt-of-lt-of-le l fewer);
             kept-names = λ x l. all .kept-names x (lt-of-lt-of-le l fewer);
             kept-sorts = λ x l. all .kept-sorts x (lt-of-lt-of-le l fewer);
@@ -127,16 +124,16 @@ module _ (t kept : List ℕ) (r : ℕ) (can : CanPatch t kept r) where
           }
 
       finish : {R S : List ℕ} {removed : ℕ} (store : List ℕ) → length store ≡ 2048 → Renewed t kept marks (width t) (rows t) R S removed →
-          (R ≡ editedBytes t r kept) × (removed ≡ removedRows (look t) (editedRows t r kept) (rows t))
+          (R ≡ editedBytes (edited t r old) t r kept) × (removed ≡ removedRows (look t) (editedRows (edited t r old) t r kept) (rows t))
       unfolding editedBytes editedRows modulus
       finish store long d = (
-        d .result ∙ bytes-are t kept store marks (width t) (rows t) (asked store long) (touchedBy (look t) r) (look part) (λ x e. part-below x) marks-are (λ x l e. part-look x l),
-        d .counted ∙ removed-is t kept store marks (width t) (rows t) (asked store long) (touchedBy (look t) r) (look part) (λ x e. part-below x) marks-are (λ x l e. part-look x l),
+        d .result ∙ bytes-are t kept store marks (width t) (rows t) (asked store long) (isTouched (edited t r old) t r) (look part) (λ x e. part-below x) marks-are (λ x l e. part-look x l),
+        d .counted ∙ removed-is t kept store marks (width t) (rows t) (asked store long) (isTouched (edited t r old) t r) (look part) (λ x e. part-below x) marks-are (λ x l e. part-look x l),
       )
 
       pub patch-done : {R S : List ℕ} {removed : ℕ} (store : List ℕ) → length store ≡ 2048 → Renewed t kept marks w n R S removed →
-          Patched t kept r (record { refusal = 0; row = 0; removed = removed; touched = count }) R
-      unfolding touchedRows
+          Patched t old kept r (record { refusal = 0; row = 0; removed = removed; touched = count }) R
+      unfolding touchedRows isTouched
       patch-done {removed = removed} store long d =
           let both = finish store long (rw (width-is .is, rows-is .is) at d) in
           record {

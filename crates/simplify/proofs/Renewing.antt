@@ -22,14 +22,17 @@ use Rattle.row.specs.Bytes.{sourceAt, putRow}
 use Rattle.row.proofs.Places.{room-below, place-grows}
 use Rattle.term.specs.Term.{Term, isRead, isArray, termOf, rowOf}
 use Rattle.term.specs.Relation.{rangeOf}
-use Rattle.term.specs.Rule.{rule}
-use Rattle.term.specs.Result.{simplified, removedRows}
-use Rattle.term.specs.WellFormed.{Fits, Names}
+use Rattle.names.specs.First.{nameAt, firstOf}
+use Rattle.term.specs.Seen.{seen}
+use Rattle.term.specs.Result.{ruleAt, simplified, removedRows}
+use Rattle.term.specs.WellFormed.{Fits, Names, Below, WellFormed}
 use Rattle.term.specs.Bytes.{look, putIf, putRows}
 use Rattle.term.proofs.Names.{NamesBelow, names-widen, names-both}
-use Rattle.term.proofs.Local.{rule-local, range-by-local}
+use Rattle.term.proofs.Seen.{seen-below, seen-sort, seen-formed}
+use Rattle.term.proofs.Local.{rule-at-local, range-by-local}
 use Rattle.term.proofs.Ranges.{range-eq}
-use Rattle.term.proofs.WellFormed.{simplified-stands}
+use Rattle.term.proofs.WellFormed.{formed-below, simplified-stands}
+use Rattle.term.proofs.Looked.{first-row-is}
 use Rattle.term.proofs.Renewed.{KeptBelow, renewed-eq, renewed-below}
 use Rattle.term.proofs.Placed.{length-put-rows, put-if-other, put-rows-above, put-rows-next}
 use Rattle.walks.specs.Ready.{SortsIn, Standing, Sorted, Linked}
@@ -59,6 +62,13 @@ unfolding look
 look-above touched f source n buffer x h = ap termOf (put-rows-above touched f source n buffer x h)
 
 module _ (T R₀ S₀ marks : List ℕ) (w n : ℕ) (can : CanRenew T R₀ S₀ marks w n) where
+  pub table-below : NamesBelow (look T)
+  table-below = formed-below (2 ^ w) (look T) (can .formed)
+
+  -- the table as it is read
+  read-formed : WellFormed (2 ^ w) (seen (look T))
+  read-formed = seen-formed (look T) (2 ^ w) (pow-pos w) (can .formed)
+
   kept-below : KeptBelow (marked marks) (standing R₀ n)
   unfolding standing
   kept-below x e =
@@ -69,25 +79,26 @@ module _ (T R₀ S₀ marks : List ℕ) (w n : ℕ) (can : CanRenew T R₀ S₀ 
 
   pub out-below : NamesBelow out
   unfolding outcome
-  out-below = renewed-below (2 ^ w) LIMIT (marked marks) (look T) (standing R₀ n) (can .names) kept-below
+  out-below = renewed-below (2 ^ w) LIMIT (marked marks) (look T) (standing R₀ n) table-below kept-below
 
-  pub out-eq : (x : ℕ) → out x ≡ cond (marked marks x) (simplified (2 ^ w) LIMIT out (look T x)) (standing R₀ n x)
+  pub out-eq : (x : ℕ) → out x ≡ cond (marked marks x) (simplified (2 ^ w) LIMIT (look T) out x) (standing R₀ n x)
   unfolding outcome
-  out-eq = renewed-eq (2 ^ w) LIMIT (marked marks) (look T) (standing R₀ n) (can .names) kept-below
+  out-eq = renewed-eq (2 ^ w) LIMIT (marked marks) (look T) (standing R₀ n) table-below kept-below
 
   -- an unmarked row is the one that stood there
   out-kept : (x : ℕ) → x < n → marked marks x ≡ false → out x ≡ look R₀ x
   unfolding standing
   out-kept x l e = out-eq x ∙ rw (e, lt-ltb x n l)
 
-  out-made : (x : ℕ) → marked marks x ≡ true → out x ≡ simplified (2 ^ w) LIMIT out (look T x)
+  out-made : (x : ℕ) → marked marks x ≡ true → out x ≡ simplified (2 ^ w) LIMIT (look T) out x
   out-made x e = out-eq x ∙ rw e
 
   -- a word stays a word, an array an array
   out-sort : (x : ℕ) → x < n → isArray (out x) ≡ isArray (look T x)
   out-sort x l =
       test-case (marked marks x)
-      (λ (e : marked marks x ≡ true). ap isArray (out-made x e) ∙ simplified-stands (2 ^ w) (pow-pos w) LIMIT out (look T x) (can .fits x) .1)
+      (λ (e : marked marks x ≡ true).
+      ap isArray (out-made x e) ∙ simplified-stands (2 ^ w) (pow-pos w) LIMIT (look T) out x (read-formed .fits x) .1 ∙ seen-sort (look T) x)
       (λ (e : marked marks x ≡ false). ap isArray (out-kept x l e) ∙ can .kept-sort x l e)
 
   module _ {r : ℕ} {R S : List ℕ} {removed : ℕ} (at : Renewing T R₀ marks w n r R S removed) (l : r < n) where
@@ -104,16 +115,18 @@ module _ (T R₀ S₀ marks : List ℕ) (w n : ℕ) (can : CanRenew T R₀ S₀ 
         names-widen t (λ s y (h : (y < r) × (isArray (look T y) ≡ s)). sort-now y (h .0) ∙ h .1)
         (names-both (λ s y. y < r) (λ s y. isArray (look T y) ≡ s) t low sorts)
 
-    table-sorts : SortsIn R (look T r)
-    table-sorts = sorts-now (look T r) (can .names r) (can .sorts r)
+    table-sorts : SortsIn R (seen (look T) r)
+    table-sorts =
+        sorts-now (seen (look T) r) (seen-below (look T) table-below r)
+        (names-widen (seen (look T) r) (λ s y (b : Below (seen (look T)) r s y). sym (seen-sort (look T) y) ∙ b .sort) (read-formed .names r))
 
     -- the rule over the rows that stand is the rule over the outcome
-    ruled : rule (2 ^ w) LIMIT (look R) (kept S) (look T r) ≡ simplified (2 ^ w) LIMIT out (look T r)
+    ruled : ruleAt (2 ^ w) LIMIT (look T) (look R) (kept S) r ≡ simplified (2 ^ w) LIMIT (look T) out r
     unfolding simplified
     ruled =
-        rule-local (λ s y. (y < r) × (isArray (look R y) ≡ s)) (look R) out (sorts-closed R r (at .stand) (at .sorted))
-        (λ s y h. at .rows y (h .0)) (kept S) (rangeOf (2 ^ w) out) (λ y h. at .ranges y (h .0) (sym (sort-now y (h .0)) ∙ h .1)) (2 ^ w) LIMIT (look T r)
-        (names-both (λ s y. y < r) (λ s y. isArray (look R y) ≡ s) (look T r) (can .names r) table-sorts)
+        rule-at-local (λ s y. (y < r) × (isArray (look R y) ≡ s)) (look R) out (sorts-closed R r (at .stand) (at .sorted))
+        (λ s y h. at .rows y (h .0)) (kept S) (rangeOf (2 ^ w) out) (λ y h. at .ranges y (h .0) (sym (sort-now y (h .0)) ∙ h .1)) (2 ^ w) LIMIT (look T) r
+        (names-both (λ s y. y < r) (λ s y. isArray (look R y) ≡ s) (seen (look T) r) (seen-below (look T) table-below r) table-sorts)
 
     same-length : length R ≡ length R₀
     same-length = ap length (at .result) ∙ length-put-rows (marked marks) out (sourceAt T) r R₀
@@ -121,13 +134,13 @@ module _ (T R₀ S₀ marks : List ℕ) (w n : ℕ) (can : CanRenew T R₀ S₀ 
     fits : Fits (2 ^ w) (origin T R r (marked marks r))
     unfolding origin
     fits =
-        pick-case (Fits (2 ^ w)) (marked marks r) (λ (e : marked marks r ≡ true). can .fits r)
+        pick-case (Fits (2 ^ w)) (marked marks r) (λ (e : marked marks r ≡ true). read-formed .fits r)
         (λ (e : marked marks r ≡ false). subst (Fits (2 ^ w)) (sym stood) (can .kept-fits r l e))
 
     names : Names (λ array y. y < r) (origin T R r (marked marks r))
     unfolding origin
     names =
-        pick-case (Names (λ array y. y < r)) (marked marks r) (λ (e : marked marks r ≡ true). can .names r)
+        pick-case (Names (λ array y. y < r)) (marked marks r) (λ (e : marked marks r ≡ true). seen-below (look T) table-below r)
         (λ (e : marked marks r ≡ false). subst (Names (λ array y. y < r)) (sym stood) (can .kept-names r l e))
 
     sorts : SortsIn R (origin T R r (marked marks r))
@@ -136,8 +149,8 @@ module _ (T R₀ S₀ marks : List ℕ) (w n : ℕ) (can : CanRenew T R₀ S₀ 
         pick-case (SortsIn R) (marked marks r) (λ (e : marked marks r ≡ true). table-sorts)
         (λ (e : marked marks r ≡ false). subst (SortsIn R) (sym stood) (sorts-now (look R₀ r) (can .kept-names r l e) (can .kept-sorts r l e)))
 
-    pub can-write : CanWrite T R S w r (marked marks r)
-    can-write =
+    pub can-write : {first : ℕ} → first ≡ firstOf (nameAt T) r → CanWrite T R S w r first (marked marks r)
+    can-write first-is =
         let few : n ≤ 1024 = can .few in
         let up : place r + LENGTH ≤ place n = room-below l in
         let table-room : place n ≤ length T = can .table-room in
@@ -154,6 +167,7 @@ module _ (T R₀ S₀ marks : List ℕ) (w n : ℕ) (can : CanRenew T R₀ S₀ 
           fits = fits;
           names = names;
           sorts = sorts;
+          first-is = first-is ∙ sym (first-row-is T r);
         }
 
     module _ (R′ S′ : List ℕ) (turn : Written T R R′ S S′ w LIMIT r (marked marks r)) where

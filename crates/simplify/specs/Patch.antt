@@ -1,5 +1,5 @@
 -- The parts of an edit: rows moved as bytes, and the rows worked out anew.
-use Prim.Native.Nat.{ℕ, _+_, _≤_}
+use Prim.Native.Nat.{ℕ, _+_, _≤_, _<_}
 use mathlib.Core.Path.{_≡_}
 use mathlib.Core.Bool.{false}
 use mathlib.Core.List.{List}
@@ -7,7 +7,7 @@ use lib.ListN.{length}
 use Rattle.row.specs.Names.{LENGTH, place}
 use Rattle.table.specs.Refusals.{rows, accepted, checkTable}
 use Rattle.term.specs.Result.{removedRows}
-use Rattle.term.specs.Bytes.{look}
+use Rattle.term.specs.Bytes.{look, edited}
 use Rattle.judge.specs.Edit.{keptPart, keptWrong}
 use Rattle.simplify.specs.declared.Answer.{Answer}
 use Rattle.simplify.specs.Answer.{answer}
@@ -23,12 +23,14 @@ pub record CanPut (t : List ℕ) (r : ℕ) (bytes : List ℕ) : Type 0 where
   pub here : place r + LENGTH ≤ length t
   pub long : length bytes ≡ LENGTH
 
--- an accepted table, and a kept result that goes with it
-pub record CanPatch (t kept : List ℕ) (r : ℕ) : Type 0 where
+-- an accepted table with the row r, the bytes of the row that stood there before, and a kept result that goes with the table
+pub record CanPatch (t old kept : List ℕ) (r : ℕ) : Type 0 where
   pub table : checkTable t ≡ accepted
+  pub row : r < rows t
+  pub long : length old ≡ LENGTH
   pub room : length t ≤ length kept
   pub right : keptWrong t (keptPart t kept) ≡ false
 
-pub record Patched (t kept : List ℕ) (r : ℕ) (given : Answer) (left : List ℕ) : Type 0 where
-  pub answer-is : given ≡ answer 0 0 (removedRows (look t) (editedRows t r kept) (rows t)) (touchedRows t r)
-  pub kept-is : left ≡ editedBytes t r kept
+pub record Patched (t old kept : List ℕ) (r : ℕ) (given : Answer) (left : List ℕ) : Type 0 where
+  pub answer-is : given ≡ answer 0 0 (removedRows (look t) (editedRows (edited t r old) t r kept) (rows t)) (touchedRows (edited t r old) t r)
+  pub kept-is : left ≡ editedBytes (edited t r old) t r kept

@@ -12,7 +12,7 @@ use Rattle.table.specs.Refusals.{MOST}
 use Rattle.term.specs.Term.{Term, const, isRead, isArray}
 use Rattle.term.specs.Relation.{rangeOf}
 use Rattle.term.specs.Result.{renewed, removedRows}
-use Rattle.term.specs.WellFormed.{Fits, Names}
+use Rattle.term.specs.WellFormed.{Fits, Names, WellFormed}
 use Rattle.term.specs.Bytes.{look, putRows}
 use Rattle.marks.specs.Marks.{marked}
 use Rattle.walks.specs.Ready.{SortsIn}
@@ -27,9 +27,9 @@ standing R n x = cond (ltb x n) (look R x) (const 0)
 unfoldable pub outcome : List ℕ → List ℕ → (ℕ → Bool) → ℕ → ℕ → ℕ → Term
 outcome T R touched w n = renewed (2 ^ w) LIMIT touched (look T) (standing R n)
 
--- one turn: row r is touched where it is marked, and `one` counts it where it was a READ and is none any more
-pub record CanTurn (T R S marks : List ℕ) (w r : ℕ) : Type 0 where
-  pub can : CanWrite T R S w r (marked marks r)
+-- one turn: row r is touched where it is marked, and `one` counts it where it was a READ and is none any more; `first` is the first row of its name
+pub record CanTurn (T R S marks : List ℕ) (w r first : ℕ) : Type 0 where
+  pub can : CanWrite T R S w r first (marked marks r)
 
 pub record Turned (T R R′ S S′ marks : List ℕ) (w r one : ℕ) : Type 0 where
   pub written : Written T R R′ S S′ w LIMIT r (marked marks r)
@@ -41,9 +41,7 @@ pub record CanRenew (T R S marks : List ℕ) (w n : ℕ) : Type 0 where
   pub store-long : length S ≡ 2048
   pub table-room : place n ≤ length T
   pub room : place n ≤ length R
-  pub fits : (x : ℕ) → Fits (2 ^ w) (look T x)
-  pub names : (x : ℕ) → Names (λ array y. y < x) (look T x)
-  pub sorts : (x : ℕ) → SortsIn T (look T x)
+  pub formed : WellFormed (2 ^ w) (look T)
   pub kept-fits : (x : ℕ) → x < n → marked marks x ≡ false → Fits (2 ^ w) (look R x)
   pub kept-names : (x : ℕ) → x < n → marked marks x ≡ false → Names (λ array y. y < x) (look R x)
   pub kept-sorts : (x : ℕ) → x < n → marked marks x ≡ false → SortsIn T (look R x)

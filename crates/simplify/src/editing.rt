@@ -2,7 +2,8 @@
 ghost use mathlib.Core.Path.{_≡_};
 ghost use lib.ListN.{take, drop};
 ghost use Rattle.row.specs.Names.{LENGTH, place};
-ghost use Rattle.simplify.specs.Edit.{edited, Edited};
+ghost use Rattle.term.specs.Bytes.{edited};
+ghost use Rattle.simplify.specs.Edit.{Edited};
 ghost use Rattle.simplify.specs.Patch.{CanTake, CanPut, CanPatch, Patched};
 use crate::Answer;
 use crate::copying::copy;
@@ -26,14 +27,14 @@ fn put_row(table: &mut [u8], r: usize, bytes: &[u8])
     copy(bytes, 0, Row::LENGTH, table, Row::place(r));
 }
 
-// Works out anew row r of the edited table and the rows that lead back to it.
-fn patch(table: &[u8], kept: &mut [u8], r: usize) -> Answer
-    requires { ⌜ CanPatch (now table) (now kept) r ⌝ }
-    ensures { λ answer. ⌜ Patched (now (table .entry)) (now (kept .entry)) r answer (now (kept .exit)) ⌝ }
+// Works out anew row r of the edited table and the rows that lead back to it, now or when the old row stood there.
+fn patch(table: &[u8], old: &[u8], kept: &mut [u8], r: usize) -> Answer
+    requires { ⌜ CanPatch (now table) (now old) (now kept) r ⌝ }
+    ensures { λ answer. ⌜ Patched (now (table .entry)) (now (old .entry)) (now (kept .entry)) r answer (now (kept .exit)) ⌝ }
 {
     let n = table::rows_of(table);
     let mut marks = [0u64; 16];
-    let touched = marks::mark_touched(table, n, r, &mut marks);
+    let touched = marks::mark_touched(table, old, n, r, &mut marks);
     let mut store = [0u64; 2048];
     let removed = renew(table, kept, &mut store, &marks, table::width_of(table), n);
     Answer {
@@ -61,5 +62,5 @@ pub fn edit(table: &mut [u8], kept: &mut [u8], row: u64, replacement: &[u8]) -> 
         put_row(table, r, &old);
         return refused(verdict.number, verdict.row);
     }
-    patch(table, kept, r)
+    patch(table, &old, kept, r)
 }

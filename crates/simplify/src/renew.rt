@@ -39,7 +39,7 @@ fn one_if(passed: bool) -> u64
     0
 }
 
-// Settles result row r and what the store keeps for it, and answers 1 where it is no READ any more.
+// Settles result row r and what the store keeps for it, and answers 1 where it is no READ any more. `first` is the first row of its name.
 fn turn(
     table: &[u8],
     result: &mut [u8],
@@ -47,8 +47,9 @@ fn turn(
     marks: &[u64; 16],
     w: u32,
     r: usize,
+    first: usize,
 ) -> u64
-    requires { ⌜ CanTurn (now table) (now result) (now store) (now marks) w r ⌝ }
+    requires { ⌜ CanTurn (now table) (now result) (now store) (now marks) w r first ⌝ }
     ensures { λ one. ⌜ Turned (now (table .entry)) (now (result .entry)) (now (result .exit)) (now (store .entry)) (now (store .exit)) (now (marks .entry)) w r one ⌝ }
 {
     rules::write_row(
@@ -58,6 +59,7 @@ fn turn(
         w,
         LIMIT,
         r,
+        first,
         marks::is_marked(marks, r),
     );
     one_if(is_removed(table, result, r))
@@ -75,10 +77,12 @@ pub fn renew(
     requires { ⌜ CanRenew (now table) (now result) (now store) (now marks) w n ⌝ }
     ensures { λ removed. ⌜ Renewed (now (table .entry)) (now (result .entry)) (now (marks .entry)) w n (now (result .exit)) (now (store .exit)) removed ⌝ }
 {
+    let mut slots = [0u16; 256];
     let mut removed = 0;
     let mut r = 0;
     while r < n {
-        removed += turn(table, result, store, marks, w, r);
+        let first = names::first_of(table, &mut slots, r);
+        removed += turn(table, result, store, marks, w, r, first);
         r += 1;
     }
     removed

@@ -12,11 +12,11 @@ use Rattle.row.specs.Names.{VAR}
 use Rattle.row.specs.Bytes.{rowAt}
 use Rattle.table.specs.declared.Uses.{Uses}
 use Rattle.table.specs.Uses.{usesOf}
-use Rattle.table.specs.Refusals.{width, reference, useAt, isUsed, anyField, strayField, largeNumber, notBelow, wrongSort, boundsCrossed, rowReasons, accepted, checkTable, headReasons}
+use Rattle.table.specs.Refusals.{width, reference, useAt, isUsed, isReference, anyField, strayField, largeNumber, notBelow, wrongSort, boundsCrossed, rowReasons, accepted, checkTable, headReasons}
 use Rattle.table.specs.Accepted.{GoodRow, Accepted}
 use Rattle.table.proofs.Heads.{good-head, head-none}
 use Rattle.table.proofs.Any.{any-none, none-any}
-use Rattle.table.proofs.Fields.{used-below}
+use Rattle.table.proofs.Fields.{refers-below}
 use Rattle.table.proofs.Exactly.{not-refused, accepted-none}
 
 -- ---- tests joined
@@ -76,9 +76,10 @@ module _ (t : List ℕ) (r : ℕ) (x : Row) where
         unused-h = λ e. zero-unused (u .h) (x .h) (or-right (anyField stray || stray-k) stray-h strays) e;
         k-word = λ e. leb-false (2 ^ width t) (x .k) (and-fails (u .k) _ (or-left large-k large-h larges) e);
         h-word = λ e. leb-false (2 ^ width t) (x .h) (and-fails (u .h) _ (or-right large-k large-h larges) e);
-        below = λ f l e. used-below r u x f (below f l) e;
-        sort = λ f l e. eqb-true _ _ (not-false _ (and-fails (isUsed (useAt u f)) _ (sorts f l) e));
+        below = λ f l e. refers-below r u x f (below f l) e;
+        sort = λ f l e. eqb-true _ _ (not-false _ (and-fails (isReference (useAt u f)) _ (sorts f l) e));
         bounds = λ e. ltb-false (x .h) (x .k) (and-fails (eqb (x .kind) VAR) _ (none .1 .1 .1 .1 .1 .1 .0) (eq-eqb (x .kind) VAR e));
+        agrees = none .1 .1 .1 .1 .1 .1 .1 .0;
       }
 
   row-good : GoodRow t r x (usesOf (x .kind)) → NoneHolds (rowReasons t r x)
@@ -97,12 +98,12 @@ module _ (t : List ℕ) (r : ℕ) (x : Row) where
                   (fails-and (u .k) _ (λ e. lt-leb (2 ^ width t) (x .k) (good .k-word e)))
                   (fails-and (u .h) _ (λ e. lt-leb (2 ^ width t) (x .h) (good .h-word e))),
               (
-                none-any (notBelow r u x) (λ f l. fails-and (isUsed (useAt u f)) _ (λ e. lt-leb r (reference x f) (good .below f l e))),
+                none-any (notBelow r u x) (λ f l. fails-and (isReference (useAt u f)) _ (λ e. lt-leb r (reference x f) (good .below f l e))),
                 (
-                  none-any (wrongSort t u x) (λ f l. fails-and (isUsed (useAt u f)) _ (λ e. ap not (eq-eqb _ _ (good .sort f l e)))),
+                  none-any (wrongSort t u x) (λ f l. fails-and (isReference (useAt u f)) _ (λ e. ap not (eq-eqb _ _ (good .sort f l e)))),
                   (
                     fails-and (eqb (x .kind) VAR) _ (λ e. le-ltb (x .h) (x .k) (good .bounds (eqb-true (x .kind) VAR e))),
-                    tt,
+                    (good .agrees, tt),
                   ),
                 ),
               ),

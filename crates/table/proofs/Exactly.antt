@@ -1,5 +1,5 @@
 -- "Given exactly when": a number and row are given exactly when the number's reason is the first that holds,
--- in document 01's order, and the row is the first faulty one; a table is accepted exactly when no reason holds.
+-- in the order of documents 01 and 02, and the row is the first faulty one; a table is accepted exactly when no reason holds.
 use Prim.Native.Nat.{ℕ, _+_, _<_}
 use native.Mathlib.Omega.{arith}
 use mathlib.Core.Path.{_≡_, refl, sym, ap, subst₂, _∙_}
@@ -19,7 +19,7 @@ use Rattle.table.proofs.Faulty.{given-passes, given-refuses, refuse-num
 abbrev pub HeadPasses : List ℕ → Type 0
 HeadPasses t = NoneHolds (headReasons t)
 
--- 9 to 15 of row r
+-- 9 to 15 and 18 of row r
 abbrev pub RowPasses : List ℕ → ℕ → Type 0
 RowPasses t r = NoneHolds (rowReasons t r (rowAt t r))
 
@@ -28,7 +28,7 @@ pub record HeadRefused (t : List ℕ) (number row : ℕ) : Type 0 where
   pub holds : FirstHolds number (headReasons t)
   pub at : row ≡ 0
 
--- a number of 9 to 15 is given, with its row
+-- a number of 9 to 15 or 18 is given, with its row
 pub record RowRefused (t : List ℕ) (number row : ℕ) : Type 0 where
   pub head : HeadPasses t
   pub within : row < rows t

@@ -9,7 +9,8 @@ use Rattle.row.specs.Bytes.{rowAt, markWrong}
 use Rattle.row.specs.declared.Row.{Row}
 use Rattle.table.specs.declared.Uses.{Uses}
 use Rattle.table.specs.Uses.{sortOf, usesOf}
-use Rattle.table.specs.Refusals.{width, rows, MOST, headWrong, isUsed, useAt, reference, notBelow}
+use Rattle.table.specs.Refusals.{width, rows, MOST, headWrong, isUsed, isReference, useAt, reference, notBelow, otherBounds}
+use Rattle.names.specs.First.{nameAt, firstOf}
 
 -- row r of the table, which is x, and u, what its kind uses
 pub record GoodRow (t : List ℕ) (r : ℕ) (x : Row) (u : Uses) : Type 0 where
@@ -21,9 +22,10 @@ pub record GoodRow (t : List ℕ) (r : ℕ) (x : Row) (u : Uses) : Type 0 where
   pub unused-h : u .h ≡ false → x .h ≡ 0
   pub k-word : u .k ≡ true → x .k < 2 ^ width t
   pub h-word : u .h ≡ true → x .h < 2 ^ width t
-  pub below : (f : ℕ) → f < 3 → isUsed (useAt u f) ≡ true → reference x f < r
-  pub sort : (f : ℕ) → f < 3 → isUsed (useAt u f) ≡ true → sortOf (rowAt t (reference x f) .kind) ≡ useAt u f
+  pub below : (f : ℕ) → f < 3 → isReference (useAt u f) ≡ true → reference x f < r
+  pub sort : (f : ℕ) → f < 3 → isReference (useAt u f) ≡ true → sortOf (rowAt t (reference x f) .kind) ≡ useAt u f
   pub bounds : x .kind ≡ VAR → x .k ≤ x .h
+  pub agrees : otherBounds x (rowAt t (firstOf (nameAt t) r)) ≡ false
 
 -- none of 1 to 5 holds
 pub record GoodHead (t : List ℕ) : Type 0 where
@@ -48,4 +50,10 @@ pub record OwnAsked (t : List ℕ) (w r : ℕ) (u : Uses) (x : Row) : Type 0 whe
   pub is-width : w ≡ width t
   pub width-high : w ≤ 64
   pub is-uses : u ≡ usesOf (x .kind)
+  pub within : place r + LENGTH ≤ length t
+
+-- what the check asks of row r, which is x, and of the first row of its name
+pub record FirstAsked (t : List ℕ) (r : ℕ) (x : Row) (first : ℕ) : Type 0 where
+  pub is-row : x ≡ rowAt t r
+  pub low : first ≤ r
   pub within : place r + LENGTH ≤ length t

@@ -1,4 +1,4 @@
--- The table of refusals, line by line, for a table alone: 1 to 5 and 9 to 15 (document 01, "What is answered").
+-- The table of refusals, line by line, for a table alone: 1 to 5 and 9 to 15 (document 01, "What is answered"), and 18 (document 02, A2).
 use Prim.Native.Nat.{ℕ, zero, suc, _+_, _*_, _^_}
 use mathlib.Core.Bool.{Bool, cond, not, _&&_, _||_}
 use mathlib.Core.List.{List, [], _∷_}
@@ -10,8 +10,9 @@ use Rattle.bytes.specs.Numbers.{byte, number}
 use Rattle.row.specs.Bytes.{rowAt, markWrong}
 use Rattle.table.specs.declared.Uses.{Uses}
 use Rattle.table.specs.declared.Verdict.{Verdict}
-use Rattle.table.specs.Uses.{UNUSED, sortOf, usesOf}
+use Rattle.table.specs.Uses.{UNUSED, WORD, sortOf, usesOf}
 use Rattle.row.specs.declared.Row.{Row}
+use Rattle.names.specs.First.{nameAt, firstOf}
 
 -- the width and the row count that a header states
 unfoldable pub width : List ℕ → ℕ
@@ -51,6 +52,10 @@ useAt u f = getD (u .a ∷ u .b ∷ u .c ∷ []) f 0
 unfoldable pub isUsed : ℕ → Bool
 isUsed u = not (eqb u UNUSED)
 
+-- used to refer to a row
+unfoldable pub isReference : ℕ → Bool
+isReference u = leb WORD u
+
 -- one of the three reference fields passes the test
 unfoldable pub anyField : (ℕ → Bool) → Bool
 anyField test = test 0 || test 1 || test 2
@@ -68,17 +73,21 @@ largeNumber w u x = (u .k && leb (2 ^ w) (x .k)) || (u .h && leb (2 ^ w) (x .h))
 
 -- 13, for row r
 unfoldable pub notBelow : ℕ → Uses → Row → ℕ → Bool
-notBelow r u x f = isUsed (useAt u f) && leb r (reference x f)
+notBelow r u x f = isReference (useAt u f) && leb r (reference x f)
 
 -- 14
 unfoldable pub wrongSort : List ℕ → Uses → Row → ℕ → Bool
-wrongSort t u x f = isUsed (useAt u f) && not (eqb (sortOf (rowAt t (reference x f) .kind)) (useAt u f))
+wrongSort t u x f = isReference (useAt u f) && not (eqb (sortOf (rowAt t (reference x f) .kind)) (useAt u f))
 
 -- 15
 unfoldable pub boundsCrossed : Row → Bool
 boundsCrossed x = eqb (x .kind) VAR && ltb (x .h) (x .k)
 
--- 9 to 15 of row r, which is x, in their order
+-- 18: the row x states other bounds than y, the first row of its name. (A row that is its own first states its own.)
+unfoldable pub otherBounds : Row → Row → Bool
+otherBounds x y = not (eqb (x .k) (y .k)) || not (eqb (x .h) (y .h))
+
+-- 9 to 15, then 18, of row r, which is x, in their order
 unfoldable pub rowReasons : List ℕ → ℕ → Row → List Reason
 rowReasons t r x =
     9 when markWrong t (place r) ∷
@@ -88,6 +97,7 @@ rowReasons t r x =
     13 when anyField (notBelow r (usesOf (x .kind)) x) ∷
     14 when anyField (wrongSort t (usesOf (x .kind)) x) ∷
     15 when boundsCrossed x ∷
+    18 when otherBounds x (rowAt t (firstOf (nameAt t) r)) ∷
     []
 
 -- the number that row r of a table is refused with, 0 where it is not
@@ -109,7 +119,7 @@ unfoldable pub firstFaulty : (ℕ → ℕ) → ℕ → ℕ → Verdict → Verdi
 firstFaulty fault zero r after = after
 firstFaulty fault (suc left) r after = given (fault r) r (firstFaulty fault left (suc r) after)
 
--- rows ascending, each row 9 to 15 ascending, then what comes after
+-- rows ascending, each row 9 to 15 and 18 ascending, then what comes after
 unfoldable pub checkRows : List ℕ → Verdict → Verdict
 checkRows t after = firstFaulty (rowFault t) (rows t) 0 after
 

@@ -7,15 +7,18 @@ use lib.Dec.{eqb}
 use Rattle.table.specs.declared.Uses.{Uses}
 use Rattle.row.specs.Names.{FRESH, WRITE}
 
--- a reference field is not used, or names a word row, or an array row
+-- a reference field is not used, or has the name of a variable (document 02, A2), or refers to a word row, or to an array row
 abbrev pub UNUSED : ℕ
 UNUSED = 0
 
+abbrev pub NAME : ℕ
+NAME = 1
+
 abbrev pub WORD : ℕ
-WORD = 1
+WORD = 2
 
 abbrev pub ARRAY : ℕ
-ARRAY = 2
+ARRAY = 3
 
 -- whether rows of a kind are words or arrays
 unfoldable pub sortOf : ℕ → ℕ
@@ -29,7 +32,7 @@ abbrev pub table : List Uses
 table =
     uses UNUSED UNUSED UNUSED false false ∷
     uses UNUSED UNUSED UNUSED true false ∷  -- CONST  k
-    uses UNUSED UNUSED UNUSED true true ∷  -- VAR    k, h
+    uses NAME UNUSED UNUSED true true ∷  -- VAR    its name in a, k, h
     uses WORD UNUSED UNUSED true false ∷  -- SHIFT  a, k
     uses WORD WORD UNUSED true false ∷  -- SUM    a, b, k
     uses WORD WORD UNUSED true false ∷  -- DIFF   a, b, k

@@ -20,12 +20,14 @@ ghost use Rattle.table.specs.Refusals.{
   notBelow,
   wrongSort,
   boundsCrossed,
+  otherBounds,
   rowReasons,
   accepted,
   checkRows,
   checkTable,
 };
-ghost use Rattle.table.specs.Accepted.{OwnAsked, Named};
+ghost use Rattle.table.specs.Accepted.{OwnAsked, Named, FirstAsked};
+ghost use Rattle.row.specs.Bytes.{rowAt};
 use row::Row;
 
 pub struct Verdict {
@@ -33,7 +35,7 @@ pub struct Verdict {
     pub row: u64,
 }
 
-// What a kind uses: of each reference field whether it names a word, an array or nothing, and whether k and h are used.
+// What a kind uses: of each reference field whether it has a variable's name, refers to a word or to an array, or is not used, and whether k and h are used.
 pub struct Uses {
     pub a: u8,
     pub b: u8,
@@ -45,9 +47,11 @@ pub struct Uses {
 impl Uses {
     pub const UNUSED: u8 = 0;
 
-    pub const WORD: u8 = 1;
+    pub const NAME: u8 = 1;
 
-    pub const ARRAY: u8 = 2;
+    pub const WORD: u8 = 2;
+
+    pub const ARRAY: u8 = 3;
 
     // What the five fields are used as.
     fn make(a: u8, b: u8, c: u8, k: bool, h: bool) -> Uses
@@ -62,7 +66,7 @@ impl Uses {
     {
         match kind {
             Row::CONST => Uses::make(Uses::UNUSED, Uses::UNUSED, Uses::UNUSED, true, false),
-            Row::VAR => Uses::make(Uses::UNUSED, Uses::UNUSED, Uses::UNUSED, true, true),
+            Row::VAR => Uses::make(Uses::NAME, Uses::UNUSED, Uses::UNUSED, true, true),
             Row::SHIFT => Uses::make(Uses::WORD, Uses::UNUSED, Uses::UNUSED, true, false),
             Row::SUM => Uses::make(Uses::WORD, Uses::WORD, Uses::UNUSED, true, false),
             Row::DIFF => Uses::make(Uses::WORD, Uses::WORD, Uses::UNUSED, true, false),
@@ -205,7 +209,7 @@ fn not_below(r: usize, u: Uses, x: Row, f: usize) -> bool
     requires { ⌜ f < 3 ⌝ }
     ensures { λ b. ⌜ b ≡ notBelow r u x f ⌝ }
 {
-    (use_at(u, f) != Uses::UNUSED) & (r <= reference(x, f))
+    (Uses::WORD <= use_at(u, f)) & (r <= reference(x, f))
 }
 
 // 14, for field f of row r, which passed 13
@@ -214,7 +218,7 @@ fn wrong_sort(t: &[u8], r: usize, u: Uses, x: Row, f: usize) -> bool
     ensures { λ b. ⌜ b ≡ wrongSort (now (t .entry)) u x f ⌝ }
 {
     let used = use_at(u, f);
-    if used == Uses::UNUSED {
+    if used < Uses::WORD {
         return false;
     }
     sort(Row::kind_at(t, reference(x, f))) != used
@@ -225,6 +229,18 @@ fn bounds_crossed(x: Row) -> bool
     ensures { λ r. ⌜ r ≡ boundsCrossed x ⌝ }
 {
     (x.kind == Row::VAR) & (x.h < x.k)
+}
+
+// 18, for row r, which is x, with the first row of its name
+fn other_bounds(t: &[u8], r: usize, x: Row, first: usize) -> bool
+    requires { ⌜ FirstAsked (now t) r x first ⌝ }
+    ensures { λ b. ⌜ b ≡ otherBounds x (rowAt (now (t .entry)) first) ⌝ }
+{
+    if first == r {
+        return false;
+    }
+    let y = Row::decode(t, first);
+    (x.k != y.k) | (x.h != y.h)
 }
 
 // The number of 9 to 12 that row r, which is x, is refused with, or 0.
@@ -251,13 +267,14 @@ fn own_fault(t: &[u8], w: u32, r: usize, u: Uses, x: Row) -> u64
     0
 }
 
-// 9 to 15 for the rows of a table whose head is in order: the first faulty row stops the check.
+// 9 to 15 and 18 for the rows of a table whose head is in order: the first faulty row stops the check.
 pub fn check_rows(t: &[u8]) -> Verdict
     requires { ⌜ first (headReasons (now t)) ≡ 0 ⌝ }
     ensures { λ v. ⌜ v ≡ checkRows (now (t .entry)) accepted ⌝ }
 {
     let w = width_of(t);
     let n = rows_of(t);
+    let mut slots = [0u16; 256];
     let mut r: usize = 0;
     'rows: loop {
         if r == n {
@@ -285,6 +302,10 @@ pub fn check_rows(t: &[u8]) -> Verdict
         }
         if bounds_crossed(x) {
             break 'rows Verdict { number: 15, row };
+        }
+        let first = names::first_of(t, &mut slots, r);
+        if other_bounds(t, r, x, first) {
+            break 'rows Verdict { number: 18, row };
         }
         r += 1;
     }

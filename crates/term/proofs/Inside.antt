@@ -3,7 +3,7 @@ use Prim.Native.Nat.{ℕ, zero, suc, min, max}
 use mathlib.Core.Path.{_≡_, subst}
 use mathlib.Core.Bool.{Bool, true, false}
 use lib.Dec.{eqb}
-use Rattle.basis.proofs.Pick.{pick-case, min-case, max-case}
+use Rattle.basis.proofs.Pick.{pick-case, pick-along, min-case, max-case}
 use Rattle.word.specs.Word.{plus, minus}
 use Rattle.range.specs.declared.Range.{Range}
 use Rattle.term.specs.declared.Relation.{Relation}
@@ -13,7 +13,8 @@ use Rattle.term.specs.Base.{Base, nothing, one, sumOf, difference, negat
 use Rattle.term.specs.Relation.{related, rangeOf}
 use Rattle.term.specs.Walk.{Walk, found, passed, undecided, ended, step, walkAt, walk}
 use Rattle.term.specs.Rule.{shiftRule, sumRule, negBy, negRule, diffRule, readBy, readRule, skipBy, skipAt, writeRule, rule}
-use Rattle.term.specs.Result.{simplified}
+use Rattle.term.specs.Seen.{firstRow, isLater, byName, seen}
+use Rattle.term.specs.Result.{ruleAt, simplified}
 use Rattle.term.specs.WellFormed.{Names}
 use Rattle.term.proofs.Base.{open-case}
 
@@ -182,6 +183,10 @@ module _ (U : Bool → ℕ → Type 0) (f : ℕ → Term) (closed : (s : Bool) (
   rule-in M limit g fresh n = tt
   rule-in M limit g (write a b c) n = (skip-at-in g b a (f a) (n .0) (closed true a (n .0)), plain-in b (n .1), plain-in c (n .2))
 
-  pub simplified-in : (M limit : ℕ) (t : Term) → Names U t → Names U (simplified M limit f t)
+  pub rule-at-in : (M limit : ℕ) (g : ℕ → Range) (t : ℕ → Term) (x : ℕ) → Names U (seen t x) → Names U (ruleAt M limit t f g x)
+  unfolding ruleAt seen byName
+  rule-at-in M limit g t x = pick-along (Names U) (isLater t x) (shift (firstRow t x) 0) (rule-in M limit g (t x))
+
+  pub simplified-in : (M limit : ℕ) (t : ℕ → Term) (x : ℕ) → Names U (seen t x) → Names U (simplified M limit t f x)
   unfolding simplified
-  simplified-in M limit t n = rule-in M limit (rangeOf M f) t n
+  simplified-in M limit = rule-at-in M limit (rangeOf M f)

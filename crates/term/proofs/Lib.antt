@@ -1,6 +1,7 @@
 -- Laws of terms, rules and results: over lookups first, over bytes from `Rows` on.
 pub mod Base
 pub mod Names
+pub mod Seen
 pub mod Inside
 pub mod Local
 pub mod Ranges

@@ -2,6 +2,7 @@
 use Prim.Native.Nat.{ℕ, zero, suc}
 use mathlib.Core.Path.{_≡_, refl, ap, ap₂, _∙_}
 use mathlib.Core.Bool.{Bool, true, false}
+use Rattle.basis.proofs.Pick.{pick-under}
 use Rattle.word.specs.Word.{plus, minus}
 use Rattle.range.specs.declared.Range.{Range}
 use Rattle.range.specs.Range.{point, negation}
@@ -13,7 +14,8 @@ use Rattle.term.specs.Base.{Base, nothing, one, sumOf, difference, negat
 use Rattle.term.specs.Relation.{rangeBy, rangeDown, rangeOf, related}
 use Rattle.term.specs.Walk.{Walk, found, passed, undecided, ended, step, walkAt, walk}
 use Rattle.term.specs.Rule.{shiftRule, sumRule, negBy, negRule, diffRule, readBy, readRule, skipBy, skipAt, writeRule, rule}
-use Rattle.term.specs.Result.{simplified}
+use Rattle.term.specs.Seen.{firstRow, isLater, byName, seen}
+use Rattle.term.specs.Result.{ruleAt, simplified}
 use Rattle.term.specs.WellFormed.{Names}
 use Rattle.term.proofs.Names.{names-widen}
 use Rattle.term.proofs.Inside.{BaseIn, WalkIn, base-in, walk-in}
@@ -195,6 +197,10 @@ module _
       rule-local M limit fresh n = refl
       rule-local M limit (write a b c) n = write-rule-local a b c (n .0) (n .1) (n .2)
 
-    pub simplified-local : (M limit : ℕ) (t : Term) → Names U t → simplified M limit f t ≡ simplified M limit f′ t
+      pub rule-at-local : (M limit : ℕ) (t : ℕ → Term) (x : ℕ) → Names U (seen t x) → ruleAt M limit t f g x ≡ ruleAt M limit t f′ g′ x
+      unfolding ruleAt seen byName
+      rule-at-local M limit t x = pick-under (Names U) (isLater t x) (shift (firstRow t x) 0) (rule-local M limit (t x))
+
+    pub simplified-local : (M limit : ℕ) (t : ℕ → Term) (x : ℕ) → Names U (seen t x) → simplified M limit t f x ≡ simplified M limit t f′ x
     unfolding simplified
-    simplified-local M limit t n = rule-local (rangeOf M f) (rangeOf M f′) (λ x u. range-local M false x u) M limit t n
+    simplified-local = λ M. rule-at-local (rangeOf M f) (rangeOf M f′) (λ x u. range-local M false x u) M

@@ -3,30 +3,58 @@ use Prim.Native.Nat.{ℕ, zero, suc, _+_, _^_, _≤_, _<_}
 use native.Mathlib.Nat.{le-refl, lt-of-lt-of-le, lt-of-le-of-lt}
 use native.Mathlib.Omega.{arith}
 use native.Mathlib.Decide.{decLt}
-use mathlib.Core.Path.{_≡_, refl, ap, _∙_}
+use mathlib.Core.Path.{_≡_, refl, sym, ap, fun-ext, _∙_}
 use mathlib.Core.Bool.{Bool, true, false, cond}
 use mathlib.Core.Logic.{dite}
 use mathlib.Core.List.{List}
-use lib.Dec.{lit<}
+use lib.Dec.{eqb, lit<}
 use lib.ListN.{length, take, List·getD-eq-default}
 use lib.Seq.{getD-take}
 use lib.Pow.{pow-pos}
 use Rattle.row.specs.declared.Row.{Row}
-use Rattle.row.specs.Names.{LENGTH, KIND, SOURCE, place}
+use Rattle.basis.proofs.Pick.{pick-case}
+use Rattle.row.specs.Names.{VAR, LENGTH, KIND, A, SOURCE, place}
 use Rattle.bytes.specs.Numbers.{byte}
 use Rattle.row.specs.Bytes.{row, rowFrom, rowAt, markWrong, Small}
-use Rattle.row.proofs.Rows.{rowFrom-same, markWrong-same, put-mark}
-use Rattle.term.specs.Term.{Term, const, var, shift, sum, diff, neg, read, fresh, write, termOf, rowOf}
+use Rattle.row.proofs.Rows.{rowFrom-same, markWrong-same, put-mark, row-stays}
+use Rattle.bytes.proofs.Numbers.{number-below}
+use Rattle.names.specs.First.{nameOf, nameAt, firstOf}
+use Rattle.term.specs.Seen.{firstRow}
+use Rattle.term.specs.Term.{Term, const, var, shift, sum, diff, neg, read, fresh, write, termOf, rowOf, statedBy}
 use Rattle.term.specs.WellFormed.{Fits, Names}
-use Rattle.term.specs.Bytes.{look, putIf, putRows}
-use Rattle.term.proofs.Rows.{term-row}
-use Rattle.term.proofs.WellFormed.{Unnamed}
+use Rattle.term.specs.Bytes.{look, edited, putIf, putRows}
+use Rattle.term.proofs.Rows.{term-row, stated-term}
 use Rattle.term.proofs.Placed.{length-put-rows, put-if-other-mark, put-rows-row}
 
 -- past the end every row is CONST 0
 pub look-past : (t : List ℕ) (x : ℕ) → length t ≤ place x → look t x ≡ const 0
 unfolding look rowAt rowFrom termOf
 look-past t x h = rw (List·getD-eq-default t 0 {n = place x + KIND} (omega arith))
+
+-- ---- a row replaced: the others are looked up as before
+
+pub edited-others : (t : List ℕ) (r : ℕ) (new : List ℕ) → length new ≡ LENGTH → (x : ℕ) → (x ≡ r → ⊥) → look t x ≡ look (edited t r new) x
+unfolding look edited
+edited-others t r new long x other = ap termOf (sym (row-stays t r new long x other))
+
+-- ---- names
+
+pub look-states : (t : List ℕ) (x : ℕ) → statedBy (look t x) ≡ nameAt t x
+unfolding look nameAt
+look-states t x = stated-term (rowAt t x)
+
+pub first-row-is : (t : List ℕ) (x : ℕ) → firstRow (look t) x ≡ firstOf (nameAt t) x
+unfolding firstRow
+first-row-is t x = ap (λ (names : ℕ → ℕ). firstOf names x) (fun-ext (look-states t))
+
+-- a name fits its field
+pub name-small : (t : List ℕ) (x : ℕ) → statedBy (look t x) < 65536
+unfolding nameAt nameOf rowAt rowFrom
+name-small t x =
+    rw (look-states t x)
+    (pick-case (λ (n : ℕ). n < 65536) (eqb (rowAt t x .kind) VAR)
+    (λ (e : eqb (rowAt t x .kind) VAR ≡ true). number-below 2 t (place x + A))
+    (λ (e : eqb (rowAt t x .kind) VAR ≡ false). lit< tt))
 
 -- ---- the first n rows, cut off
 
@@ -98,12 +126,12 @@ fields-small kind a b c k h p q r s u v = record { kind = p; a = q; b = r; c = s
 
 -- the row of a term whose numbers are words of at most 64 bits and which names rows below x fits its fields
 pub small-term : (M x : ℕ) → M ≤ 2 ^ 64 → x ≤ 65536 → (t : Term) →
-    Fits M t → Unnamed t → Names (λ s y. y < x) t → Small (rowOf t)
-unfolding rowOf
+    Fits M t → statedBy t < 65536 → Names (λ s y. y < x) t → Small (rowOf t)
+unfolding rowOf statedBy
 small-term M x words few (const k) fits u n =
     fields-small _ _ _ _ _ _ (lit< tt) (lit< tt) (lit< tt) (lit< tt) (lt-of-lt-of-le fits words) (pow-pos 64)
 small-term M x words few (var name k h) fits u n =
-    fields-small _ _ _ _ _ _ (lit< tt) (rw u (lit< tt)) (lit< tt) (lit< tt) (lt-of-lt-of-le (lt-of-le-of-lt (fits .0) (fits .1)) words) (lt-of-lt-of-le (fits .1) words)
+    fields-small _ _ _ _ _ _ (lit< tt) u (lit< tt) (lit< tt) (lt-of-lt-of-le (lt-of-le-of-lt (fits .0) (fits .1)) words) (lt-of-lt-of-le (fits .1) words)
 small-term M x words few (shift a k) fits u n =
     fields-small _ _ _ _ _ _ (lit< tt) (lt-of-lt-of-le n few) (lit< tt) (lit< tt) (lt-of-lt-of-le fits words) (pow-pos 64)
 small-term M x words few (sum a b k) fits u n =

@@ -2,13 +2,19 @@
 use Prim.Native.Nat.{ℕ, zero, suc}
 use mathlib.Core.Bool.{Bool, cond}
 use mathlib.Core.List.{List}
+use lib.Seq.{sets}
 use Rattle.row.specs.declared.Row.{Row}
+use Rattle.row.specs.Names.{place}
 use Rattle.row.specs.Bytes.{rowAt, putRow}
 use Rattle.term.specs.Term.{Term, termOf, rowOf}
 
 -- the rows of a table; past its end they are CONST 0
 unfoldable pub look : List ℕ → ℕ → Term
 look t x = termOf (rowAt t x)
+
+-- the table with the replacement in place of row r
+unfoldable pub edited : List ℕ → ℕ → List ℕ → List ℕ
+edited t r replacement = sets t (place r) replacement
 
 -- the buffer with x, recorded at `source`, as its row r, where it is touched
 unfoldable pub putIf : Bool → ℕ → Row → ℕ → List ℕ → List ℕ

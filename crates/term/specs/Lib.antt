@@ -1,5 +1,6 @@
 -- Document 01's rules, as definitions that compute. A table, and a result, is a lookup: a term for each row number.
 pub mod Term
+pub mod Seen
 pub mod Base
 pub mod Relation
 pub mod Walk

@@ -45,6 +45,18 @@ rowOf (read a b) = row READ a b 0 0 0
 rowOf fresh = row FRESH 0 0 0 0 0
 rowOf (write a b c) = row WRITE a b c 0 0
 
+-- the name that a term states; 0 is none
+unfoldable pub statedBy : Term → ℕ
+statedBy (const k) = 0
+statedBy (var name k h) = name
+statedBy (shift a k) = 0
+statedBy (sum a b k) = 0
+statedBy (diff a b k) = 0
+statedBy (neg a k) = 0
+statedBy (read a b) = 0
+statedBy fresh = 0
+statedBy (write a b c) = 0
+
 unfoldable pub isRead : Term → Bool
 isRead (const k) = false
 isRead (var name k h) = false

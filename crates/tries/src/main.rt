@@ -275,6 +275,30 @@ fn p1_and_p3(t: &mut [u8; ROOM]) {
     say(t, Row::place(9));
 }
 
+// A VAR named 7 as the last of five rows, and what the check then gives.
+fn last_row(t: &mut [u8; ROOM], k: u64, h: u64) {
+    put(t, 4, Row::make(Row::VAR, 7, 0, 0, k, h), 0);
+    show(&[k, h]);
+    say(t, Row::place(5));
+}
+
+// Rows of one name: it is the first whose bounds count, also where another name, 263, has its slot. Name 0 is none.
+fn rows_of_one_name(t: &mut [u8; ROOM]) {
+    head(t, 8, 5);
+    put(t, 0, Row::make(Row::VAR, 7, 0, 0, 0, 9), 0);
+    put(t, 1, Row::make(Row::VAR, 263, 0, 0, 1, 2), 0);
+    put(t, 2, Row::make(Row::VAR, 0, 0, 0, 3, 4), 0);
+    put(t, 3, Row::make(Row::VAR, 0, 0, 0, 5, 6), 0);
+    io::write_all(1, b"the name of row 0, bounds 0 9, again with bounds\n");
+    last_row(t, 0, 9);
+    last_row(t, 0, 8);
+    last_row(t, 1, 9);
+    last_row(t, 9, 8);
+    io::write_all(1, b"row 0 a CONST\n");
+    put(t, 0, Row::make(Row::CONST, 0, 0, 0, 0, 0), 0);
+    last_row(t, 0, 8);
+}
+
 fn main() {
     let mut t = [0u8; ROOM];
     fill(&mut t);
@@ -285,4 +309,5 @@ fn main() {
     every_width(&mut t);
     faulty_rows(&mut t);
     p1_and_p3(&mut t);
+    rows_of_one_name(&mut t);
 }

@@ -30,7 +30,7 @@ fn damage(random: &mut Random, width: Width, bytes: &mut Vec<u8>) {
     if bytes.len() < HEADER {
         return;
     }
-    match random.below(if rows == 0 { 3 } else { 12 }) {
+    match random.below(if rows == 0 { 3 } else { 13 }) {
         0 => header(random, bytes),
         1 => length(random, bytes),
         2 => {
@@ -43,10 +43,24 @@ fn damage(random: &mut Random, width: Width, bytes: &mut Vec<u8>) {
             let moved = bytes[place(from)].to_vec();
             bytes[place(to)].copy_from_slice(&moved);
         }
+        4 => one_name(random, rows, bytes),
         _ => {
             let number = random.below(rows);
             row(random, width, number, &mut bytes[place(number)]);
         }
+    }
+}
+
+/// Gives two variables one name, whatever their bounds.
+fn one_name(random: &mut Random, rows: usize, bytes: &mut [u8]) {
+    let variables: Vec<usize> = (0..rows).filter(|row| bytes[place(*row)][KIND] == 2).collect();
+    if variables.is_empty() {
+        return;
+    }
+    let name: u16 = random.pick(&[1, 3, 259, 65_535]);
+    for _ in 0..2 {
+        let row = random.pick(&variables);
+        bytes[place(row)][REFERENCES[0]..][..2].copy_from_slice(&name.to_le_bytes());
     }
 }
 

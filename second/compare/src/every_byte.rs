@@ -1,7 +1,8 @@
-//! P1 with every single byte spoiled in turn, in each of the buffers that are lent.
+//! P1, and a table with a name, with every single byte spoiled in turn, in each of the buffers that
+//! are lent.
 
 use crate::pair::Pair;
-use crate::paper::p1;
+use crate::paper::{p1, table};
 use second::bytes::place;
 use second::text::listed;
 
@@ -22,6 +23,11 @@ fn spoiled(bytes: &[u8]) -> impl Iterator<Item = Vec<u8>> + '_ {
 }
 
 pub fn cases(pair: &mut Pair) {
+    every_byte_of_p1(pair);
+    every_byte_of_names(pair);
+}
+
+fn every_byte_of_p1(pair: &mut Pair) {
     pair.group = "every byte of P1".into();
     let table = p1();
     let mut kept = vec![0; table.len()];
@@ -41,6 +47,36 @@ pub fn cases(pair: &mut Pair) {
     for row in 0..9 {
         for replacement in spoiled(&table[place(row)]) {
             pair.edit(&mut table.clone(), &mut kept.clone(), row as u64, &replacement);
+        }
+    }
+}
+
+fn every_byte_of_names(pair: &mut Pair) {
+    pair.group = "every byte of a table with a name".into();
+    let table = table(
+        "width 8; CONST 7; VAR 515 200 250; FRESH; VAR 515 200 250; WRITE 2 1 0; READ 4 3; \
+        VAR 515 200 250",
+    );
+    let mut kept = vec![0; table.len()];
+    pair.run(&table, &mut kept);
+    let replacements = [0, 1, 3].map(|row| &table[place(row)]);
+
+    for wrong in spoiled(&table) {
+        pair.run(&wrong, &mut kept.clone());
+        for row in [0, 1, 3, 6] {
+            for replacement in replacements {
+                pair.edit(&mut wrong.clone(), &mut kept.clone(), row, replacement);
+            }
+        }
+    }
+    for wrong in spoiled(&kept) {
+        for replacement in replacements {
+            pair.edit(&mut table.clone(), &mut wrong.clone(), 3, replacement);
+        }
+    }
+    for row in [0, 1, 3, 6] {
+        for replacement in spoiled(&table[place(1)]) {
+            pair.edit(&mut table.clone(), &mut kept.clone(), row, &replacement);
         }
     }
 }

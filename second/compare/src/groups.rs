@@ -1,15 +1,16 @@
 //! One generated table and the calls made on it.
 
 use crate::damage::{damaged, result_slice, row_number};
+use crate::edited::Edited;
 use crate::meaning::{decoded, World};
 use crate::pair::{hex, Pair};
 use crate::replacement::replacement;
-use crate::{sources, walks};
-use second::bytes::{place, table_bytes};
+use crate::{names, sources, walks};
+use second::bytes::table_bytes;
 use second::{Ref, Relation, Row, Sort, Width};
 use tables::random::Random;
 use tables::sources::numbered;
-use tables::wellformed::{rows_of_sorts, Earlier, Taste};
+use tables::wellformed::{rows_of_sorts, Place, Taste};
 use tables::{chain, machine, wellformed};
 
 /// Evaluation walks arrays step by step, so it is left to small tables.
@@ -39,6 +40,7 @@ pub fn cases(pair: &mut Pair, number: u64) {
     }
     sources::cases(pair, random, &table, &result);
     walks::cases(pair, random, &table);
+    names::cases(pair, random, number);
 }
 
 /// Most tables are small; every size up to 1,024 has its turn.
@@ -61,6 +63,8 @@ pub fn some_rows(random: &mut Random, width: Width, number: u64) -> Vec<Row> {
             let habits = machine::Habits {
                 heap: random.one_in(2),
                 pointers_one_in: random.pick(&[0, 4, 12, 40]),
+                re_entries_one_in: random.pick(&[0, 2, 6, 20]),
+                names: random.pick(&[[0, 0], [1, 2], [3, 259], [65_535, 0]]),
                 careless: random.one_in(3),
             };
             machine::rows(random, width, count, habits)
@@ -69,7 +73,7 @@ pub fn some_rows(random: &mut Random, width: Width, number: u64) -> Vec<Row> {
     }
 }
 
-fn keeps_meaning(pair: &mut Pair, random: &mut Random, table: &[u8], result: &[u8]) {
+pub fn keeps_meaning(pair: &mut Pair, random: &mut Random, table: &[u8], result: &[u8]) {
     let ((width, rows), (_, result_rows)) = (decoded(table), decoded(result));
     for _ in 0..3 {
         let world = World::new(random, width, &rows);
@@ -127,46 +131,26 @@ fn own_edits(pair: &mut Pair, random: &mut Random, mut table: Vec<u8>, mut kept:
         let before = kept.clone();
         let answer = pair.edit(&mut table, &mut kept, number, &replacement);
         if answer.refusal == 0 {
-            as_a_fresh_run(pair, &table, &before, &kept, number as usize);
+            let edited = Edited {
+                row: number as usize,
+                rows_before: &rows,
+                table: &table,
+                kept_before: &before,
+                kept: &kept,
+                touched: answer.touched,
+            };
+            edited.is_a_fresh_run(pair);
+            edited.leaves_others(pair);
         }
     }
-}
-
-fn as_a_fresh_run(pair: &mut Pair, table: &[u8], before: &[u8], kept: &[u8], edited: Ref) {
-    let mut fresh = before.to_vec();
-    second::run(table, &mut fresh);
-    pair.expect(fresh == kept, || {
-        format!("edit of row {edited} is not a fresh run: edited table {}", hex(table))
-    });
-    let (_, rows) = decoded(table);
-    for row in (0..rows.len()).filter(|row| !leads_back(&rows, *row, edited)) {
-        pair.expect(kept[place(row)] == before[place(row)], || {
-            format!("edit of row {edited} changed row {row}: edited table {}", hex(table))
-        });
-    }
-}
-
-/// Searched from each row on its own, unlike the way either program goes about it.
-pub fn leads_back(rows: &[Row], from: Ref, to: Ref) -> bool {
-    let mut seen = vec![false; rows.len()];
-    let mut left = vec![from];
-    while let Some(row) = left.pop() {
-        if row == to {
-            return true;
-        }
-        // Rows below the target lead still lower.
-        if row > to && !std::mem::replace(&mut seen[row], true) {
-            left.extend(rows[row].references());
-        }
-    }
-    false
 }
 
 /// An edit with a kept result that is not the table's own.
 fn foreign_edit(pair: &mut Pair, random: &mut Random, table: &[u8], result: &[u8]) {
     let (width, rows) = decoded(table);
     let sorts: Vec<Sort> = rows.iter().map(|row| row.sort()).collect();
-    let others = rows_of_sorts(random, width, &sorts);
+    let taste = Taste::new(random, width);
+    let others = rows_of_sorts(random, &taste, &sorts);
     let mut kept = match random.below(13) {
         0..=3 => numbered(random, width, &others),
         4 | 5 => table.to_vec(),
@@ -209,7 +193,7 @@ fn with_other_rows(random: &mut Random, width: Width, result: &[u8]) -> Vec<u8> 
     let taste = Taste::new(random, width);
     for _ in 0..rows.len().min(4) {
         let row = random.below(rows.len());
-        rows[row] = taste.row(random, rows[row].sort(), &Earlier::of(&rows[..row]));
+        rows[row] = taste.row(random, rows[row].sort(), &Place::of(row, &rows));
     }
     table_bytes(width, &rows, &second::bytes::sources(result))
 }

@@ -1,14 +1,19 @@
 //! Holds the library, through its C functions, to the second program.
 
+mod aims;
 mod damage;
+mod edited;
 mod every_byte;
 mod groups;
+mod leads;
 mod lent;
 mod lines;
 mod meaning;
+mod names;
 mod pair;
 mod paper;
 mod pipes;
+mod registers;
 mod replacement;
 mod sources;
 mod tally;
@@ -71,6 +76,7 @@ fn main() -> ExitCode {
     }
     paper::cases(&mut pair);
     walks::stated(&mut pair);
+    registers::cases(&mut pair);
     every_byte::cases(&mut pair);
     for group in 0..wishes.groups {
         if wishes.trace {

@@ -4,6 +4,7 @@
 use second::bytes::numbers;
 use second::check::{check_header, check_rows};
 use second::{Ref, Row, Sort, Width};
+use std::collections::HashMap;
 use tables::random::Random;
 
 pub fn decoded(table: &[u8]) -> (Width, Vec<Row>) {
@@ -11,7 +12,8 @@ pub fn decoded(table: &[u8]) -> (Width, Vec<Row>) {
     (header.width, check_rows(table, header).expect("accepted before"))
 }
 
-/// A permitted value for each variable, and a content for each fresh array.
+/// A permitted value for each variable, the same in all rows of its name, and a content for each
+/// fresh array.
 pub struct World {
     width: Width,
     seed: u64,
@@ -29,10 +31,14 @@ impl World {
             3 => low + random.from_to(0, (high - low).min(9)),
             _ => random.from_to(low, high),
         };
+        let mut named = HashMap::new();
         let variables = rows
             .iter()
-            .map(|row| match *row {
-                Row::Var { low, high } => choose(low, high),
+            .map(|row| match (*row, row.name()) {
+                (Row::Var { low, high, .. }, None) => choose(low, high),
+                (Row::Var { low, high, .. }, Some(name)) => {
+                    *named.entry(name).or_insert_with(|| choose(low, high))
+                }
                 _ => 0,
             })
             .collect();

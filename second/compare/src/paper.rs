@@ -25,7 +25,7 @@ pub fn p1() -> Vec<u8> {
 const P1_RESULT: &str = "width 8; VAR 200 250; FRESH; SHIFT 0 248 @6; CONST 7 @6; WRITE 1 2 3 @6; \
     SHIFT 0 224 @9; SHIFT 0 248 @9; CONST 7 @9;";
 
-fn accepted(removed: u64, touched: u64) -> Answer {
+pub fn accepted(removed: u64, touched: u64) -> Answer {
     Answer { refusal: 0, row: 0, removed, touched }
 }
 
@@ -37,7 +37,7 @@ pub fn table(text: &str) -> Vec<u8> {
     packed(text).expect("rows as text")
 }
 
-fn runs(pair: &mut Pair, table: &[u8], answer: Answer, result: Option<&[u8]>) {
+pub fn runs(pair: &mut Pair, table: &[u8], answer: Answer, result: Option<&[u8]>) {
     let mut given = vec![0x5a; table.len()];
     let got = pair.run(table, &mut given);
     pair.expect(got == answer, || format!("{got:?} for {}", hex(table)));
@@ -69,7 +69,7 @@ fn p1_to_p4(pair: &mut Pair) {
     runs(pair, &p1, accepted(1, 9), Some(&result));
 
     let (mut edited, mut kept) = (p1.clone(), result.clone());
-    let wide = row_bytes(Row::Var { low: 0, high: 250 }, u32::MAX);
+    let wide = row_bytes(Row::Var { name: 0, low: 0, high: 250 }, u32::MAX);
     let answer = pair.edit(&mut edited, &mut kept, 0, &wide);
     let outcome = format!("{P1_RESULT} READ 4 7 @12");
     let outcome = table(&outcome.replace("VAR 200 250", "VAR 0 250 @4294967295"));

@@ -5,7 +5,7 @@ use second::bytes::{row_bytes, table_length, ROW, SOURCE};
 use second::check::{check_header, check_rows};
 use second::{Row, Sort, Width};
 use tables::random::Random;
-use tables::wellformed::{Earlier, Taste};
+use tables::wellformed::{Place, Taste};
 
 /// A replacement for row `number` of `rows`: as a rule well formed and of the same sort, with any
 /// instruction number.
@@ -14,7 +14,8 @@ pub fn replacement(
 ) -> Vec<u8> {
     let row = (number as usize).min(rows.len().saturating_sub(1));
     let old = rows.get(row).copied().unwrap_or(Row::Fresh);
-    let taste = Taste::new(random, width);
+    let taste = taste(random, width, rows);
+    let place = Place::of(row, rows);
     let sort = match old.sort() {
         Sort::Word if random.one_in(16) => Sort::Array,
         Sort::Array if random.one_in(16) => Sort::Word,
@@ -22,9 +23,9 @@ pub fn replacement(
     };
     let aimed = if random.one_in(3) { aimed(random, kept, row, rows.len(), sort) } else { None };
     let new = aimed.unwrap_or_else(|| match old {
-        Row::Var { .. } if random.one_in(2) => taste.variable(random),
+        Row::Var { .. } if random.one_in(2) => taste.variable(random, &place),
         Row::Shift { a, .. } if random.one_in(2) => Row::Shift { a, k: random.word(width) },
-        _ => taste.row(random, sort, &Earlier::of(&rows[..row])),
+        _ => taste.row(random, sort, &place),
     });
     let mut bytes = row_bytes(new, random.source()).to_vec();
     match random.below(24) {
@@ -33,6 +34,17 @@ pub fn replacement(
         _ => {}
     }
     bytes
+}
+
+/// Mostly one for the names that the rows have.
+fn taste(random: &mut Random, width: Width, rows: &[Row]) -> Taste {
+    let names: Vec<u16> = rows.iter().filter_map(|row| row.name()).collect();
+    let taste = Taste::new(random, width);
+    if names.is_empty() || random.one_in(4) {
+        taste
+    } else {
+        taste.with_names(names)
+    }
 }
 
 /// A row that names an earlier row together with what that one names in the kept result: there

@@ -2,7 +2,7 @@
 //! answer, and what it leaves differs in them alone, each row having the number that it must carry.
 
 use crate::damage::{result_slice, row_number};
-use crate::groups::leads_back;
+use crate::leads::worked_out_anew;
 use crate::lines::without_sources;
 use crate::meaning::decoded;
 use crate::pair::{hex, Pair};
@@ -120,8 +120,8 @@ fn edits(pair: &mut Pair, random: &mut Random, table: &[u8], result: &[u8]) {
     if answer.refusal != 0 {
         return;
     }
-    let (edited, (_, rows)) = (number as usize, decoded(table));
-    let anew: Vec<bool> = (0..rows.len()).map(|row| leads_back(&rows, row, edited)).collect();
+    let edited = number as usize;
+    let anew = worked_out_anew(&rows, &decoded(table).1, edited);
     for (lent, (_, left_table, left_kept)) in before.iter().zip(&after) {
         let mut own = sources(&lent.table);
         own[edited] = u32::from_le_bytes(lent.replacement[SOURCE..].try_into().unwrap());

@@ -1,5 +1,6 @@
 //! What the cases reached.
 
+use crate::aims::{Aim, AIMS};
 use crate::lines::{List, ENDS, REASONS};
 use second::{Answer, Comparison, Event, Relation, Watch};
 
@@ -24,7 +25,7 @@ impl Call {
     /// The refusals that the documents let this call give, and acceptance.
     fn may_give(self, refusal: usize) -> bool {
         match refusal {
-            0..=6 | 9..=15 => true,
+            0..=6 | 9..=15 | 18 => true,
             7 => self != Call::Run,
             8 | 16 => self == Call::Edit,
             17 | 22 => self == Call::Why,
@@ -55,6 +56,7 @@ pub struct Tally {
     relations: [u64; 3],
     reasons: [u64; REASONS.len()],
     ends: [u64; ENDS.len()],
+    aims: [u64; AIMS.len()],
     events: Vec<u64>,
 }
 
@@ -79,6 +81,10 @@ impl Tally {
             self.reasons[store.reason as usize] += 1;
         }
         self.ends[list.end as usize] += 1;
+    }
+
+    pub fn add_aim(&mut self, aim: Aim) {
+        self.aims[aim as usize] += 1;
     }
 
     /// Prints the shares and returns how many things were never reached.
@@ -113,6 +119,11 @@ impl Tally {
         println!("ends listed, shares of {lists} lists");
         for (end, count) in ENDS.iter().zip(self.ends) {
             line(end, count, lists);
+        }
+        let edits = self.aims.iter().sum();
+        println!("names of variables, shares of {edits} edits made for them");
+        for (aim, text) in AIMS {
+            line(text, self.aims[aim as usize], edits);
         }
         let cases = self.calls.iter().sum();
         println!("rules and ends of walks, shares of all {cases} cases");

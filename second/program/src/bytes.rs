@@ -62,7 +62,7 @@ pub fn sources(table: &[u8]) -> Vec<u32> {
 pub fn numbers(row: Row) -> (u8, [usize; 3], [u64; 2]) {
     match row {
         Row::Const { k } => (1, [0, 0, 0], [k, 0]),
-        Row::Var { low, high } => (2, [0, 0, 0], [low, high]),
+        Row::Var { name, low, high } => (2, [name.into(), 0, 0], [low, high]),
         Row::Shift { a, k } => (3, [a, 0, 0], [k, 0]),
         Row::Sum { a, b, k } => (4, [a, b, 0], [k, 0]),
         Row::Diff { a, b, k } => (5, [a, b, 0], [k, 0]),

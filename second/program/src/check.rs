@@ -1,6 +1,7 @@
 //! From bytes to decoded rows, or the number of the first fault.
 
 use crate::bytes::{place, table_length, Fields, HEADER, HEADER_MARK, MOST_ROWS, ROW_MARK};
+use crate::names::first_of_name;
 use crate::row::{Row, Sort};
 use crate::word::Width;
 
@@ -40,7 +41,7 @@ pub fn check_header(table: &[u8]) -> Result<Header, Refused> {
     Ok(Header { width, rows })
 }
 
-/// Refusals 9 to 15, of a table whose header was accepted.
+/// Refusals 9 to 15 and 18, of a table whose header was accepted.
 pub fn check_rows(table: &[u8], header: Header) -> Result<Vec<Row>, Refused> {
     let mut rows = Vec::with_capacity(header.rows);
     for number in 0..header.rows {
@@ -52,22 +53,31 @@ pub fn check_rows(table: &[u8], header: Header) -> Result<Vec<Row>, Refused> {
     Ok(rows)
 }
 
-/// Which fields a kind uses: the sort each reference must name, and the values k, h.
+/// What a kind has in the place of a reference.
+#[derive(Clone, Copy, PartialEq, Eq)]
+enum Use {
+    Nothing,
+    Name,
+    Row(Sort),
+}
+
+/// Which fields a kind uses: the references a, b, c, and the values k, h.
 struct Uses {
-    references: [Option<Sort>; 3],
+    references: [Use; 3],
     values: [bool; 2],
 }
 
 fn uses(kind: u8) -> Option<Uses> {
-    const WORD: Option<Sort> = Some(Sort::Word);
-    const ARRAY: Option<Sort> = Some(Sort::Array);
+    use Use::{Name, Nothing};
+    const WORD: Use = Use::Row(Sort::Word);
+    const ARRAY: Use = Use::Row(Sort::Array);
     let (references, values) = match kind {
-        1 => ([None, None, None], [true, false]),
-        2 => ([None, None, None], [true, true]),
-        3 | 6 => ([WORD, None, None], [true, false]),
-        4 | 5 => ([WORD, WORD, None], [true, false]),
-        7 => ([ARRAY, WORD, None], [false, false]),
-        8 => ([None, None, None], [false, false]),
+        1 => ([Nothing, Nothing, Nothing], [true, false]),
+        2 => ([Name, Nothing, Nothing], [true, true]),
+        3 | 6 => ([WORD, Nothing, Nothing], [true, false]),
+        4 | 5 => ([WORD, WORD, Nothing], [true, false]),
+        7 => ([ARRAY, WORD, Nothing], [false, false]),
+        8 => ([Nothing, Nothing, Nothing], [false, false]),
         9 => ([ARRAY, WORD, WORD], [false, false]),
         _ => return None,
     };
@@ -81,9 +91,15 @@ fn check_row(fields: &Fields, width: Width, earlier: &[Row]) -> Result<Row, u64>
     }
     let uses = uses(fields.kind).ok_or(10u64)?;
     let references = || fields.references.iter().zip(uses.references);
+    let named = || {
+        references().filter_map(|(r, used)| match used {
+            Use::Row(sort) => Some((*r as usize, sort)),
+            Use::Name | Use::Nothing => None,
+        })
+    };
     let values = || fields.values.iter().zip(uses.values);
 
-    if references().any(|(r, used)| used.is_none() && *r != 0)
+    if references().any(|(r, used)| used == Use::Nothing && *r != 0)
         || values().any(|(v, used)| !used && *v != 0)
     {
         return Err(11);
@@ -91,17 +107,21 @@ fn check_row(fields: &Fields, width: Width, earlier: &[Row]) -> Result<Row, u64>
     if values().any(|(v, used)| used && !width.holds(*v)) {
         return Err(12);
     }
-    if references().any(|(r, used)| used.is_some() && *r as usize >= earlier.len()) {
+    if named().any(|(r, _)| r >= earlier.len()) {
         return Err(13);
     }
-    if references().any(|(r, used)| used.is_some_and(|sort| earlier[*r as usize].sort() != sort)) {
+    if named().any(|(r, sort)| earlier[r].sort() != sort) {
         return Err(14);
     }
     let row = decoded(fields);
-    match row {
-        Row::Var { low, high } if low > high => Err(15),
-        _ => Ok(row),
+    if matches!(row, Row::Var { low, high, .. } if low > high) {
+        return Err(15);
     }
+    // Two VARs of one name: what may differ are their bounds.
+    if first_of_name(earlier, row).is_some_and(|first| earlier[first] != row) {
+        return Err(18);
+    }
+    Ok(row)
 }
 
 fn decoded(fields: &Fields) -> Row {
@@ -109,7 +129,7 @@ fn decoded(fields: &Fields) -> Row {
     let [k, h] = fields.values;
     match fields.kind {
         1 => Row::Const { k },
-        2 => Row::Var { low: k, high: h },
+        2 => Row::Var { name: fields.references[0], low: k, high: h },
         3 => Row::Shift { a, k },
         4 => Row::Sum { a, b, k },
         5 => Row::Diff { a, b, k },

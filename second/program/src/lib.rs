@@ -5,6 +5,7 @@
 
 pub mod bytes;
 pub mod check;
+mod names;
 mod normal;
 mod range;
 mod reason;
@@ -21,8 +22,9 @@ pub use watch::{Event, Watch};
 pub use why::{why, why_watched, Listing};
 pub use word::Width;
 
-use bytes::{place, row_bytes, sources, table_length, HEADER, ROW};
+use bytes::{place, row_bytes, sources, table_length, Fields, HEADER, ROW};
 use check::{check_header, check_rows, refused, Header, Refused};
+use names::first_of_name;
 use simplify::Simplifier;
 
 #[derive(Clone, Copy, PartialEq, Eq, Debug)]
@@ -75,17 +77,17 @@ pub fn edit_watched(
         let rows = check_rows(&new_table, header)?;
         let standing = check_kept(&new_table, &rows, &kept[..new_table.len()], watch)?;
 
-        let leads_back = leading_back(&rows, edited);
-        let carried = carried(&new_table, &kept[..new_table.len()], &leads_back, watch);
+        let anew = worked_out_anew(table, &rows, edited, watch);
+        let carried = carried(&new_table, &kept[..new_table.len()], &anew, watch);
         let mut outcome = Simplifier::new(header.width, header.rows, watch);
         for number in 0..header.rows {
-            if leads_back[number] {
-                outcome.work_out(rows[number]);
+            if anew[number] {
+                work_out(&mut outcome, &rows, number);
             } else {
                 outcome.settle(standing[number]);
             }
         }
-        let touched = leads_back.iter().filter(|leads| **leads).count();
+        let touched = anew.iter().filter(|anew| **anew).count();
         table[place(edited)].copy_from_slice(replacement);
         write_result(kept, table, outcome.rows(), &carried);
         Ok(counts(&rows, outcome.rows(), touched))
@@ -134,10 +136,12 @@ fn check_number(row: u64, header: Header) -> Result<(), Refused> {
 fn check_kept(
     table: &[u8], rows: &[Row], kept: &[u8], watch: &mut impl Watch,
 ) -> Result<Vec<Row>, Refused> {
-    let Ok(standing) = check_header(kept).and_then(|header| check_rows(kept, header)) else {
-        watch.saw(Event::KeptMalformed);
-        return Err(refused(16));
-    };
+    let standing = check_header(kept).and_then(|header| check_rows(kept, header));
+    let standing = standing.map_err(|fault| {
+        let other_bounds = fault.number == 18;
+        watch.saw(if other_bounds { Event::KeptOtherBounds } else { Event::KeptMalformed });
+        refused(16)
+    })?;
     if kept[..HEADER] != table[..HEADER] {
         watch.saw(Event::KeptOtherHeader);
         return Err(refused(16));
@@ -151,18 +155,63 @@ fn check_kept(
 
 fn simplified<'w, W: Watch>(header: Header, rows: &[Row], watch: &'w mut W) -> Simplifier<'w, W> {
     let mut outcome = Simplifier::new(header.width, header.rows, watch);
-    for row in rows {
-        outcome.work_out(*row);
+    for number in 0..rows.len() {
+        work_out(&mut outcome, rows, number);
     }
     outcome
 }
 
-/// For each row whether it is `edited` or leads back to it.
-fn leading_back(rows: &[Row], edited: Ref) -> Vec<bool> {
+/// Works out the next row, `number` of the table. A VAR of a name seen before is SHIFT of the first
+/// by 0 to the letter, even where a kept result has something else in the place of the first.
+fn work_out<W: Watch>(outcome: &mut Simplifier<W>, rows: &[Row], number: Ref) {
+    match first_of_name(&rows[..number], rows[number]) {
+        Some(first) => outcome.settle_as_first(first),
+        None => outcome.work_out(rows[number]),
+    }
+}
+
+/// For each row whether an edit works it out anew: the edited row, and those that lead back to it in
+/// the table as it stood or as it stands.
+fn worked_out_anew(table: &[u8], rows: &[Row], edited: Ref, watch: &mut impl Watch) -> Vec<bool> {
+    let mut rows_before = rows.to_vec();
+    rows_before[edited] = row_before(table[place(edited)].try_into().unwrap());
+    let before = leading_back(&rows_before, edited, watch);
+    let after = leading_back(rows, edited, watch);
+    let either = before.into_iter().zip(after).map(|(before, after)| {
+        match (before, after) {
+            (true, false) => watch.saw(Event::LedBackBefore),
+            (false, true) => watch.saw(Event::LedBackAfter),
+            _ => {}
+        }
+        before || after
+    });
+    either.collect()
+}
+
+/// The row that an edit replaces, which may be malformed: its kind byte says whether it is a VAR and
+/// has a name. Only rows that lead back to it are sought, so no matter what else it is.
+fn row_before(bytes: &[u8; ROW]) -> Row {
+    let Fields { kind, references: [name, ..], values: [low, high], .. } = Fields::of(bytes);
+    if kind == 2 {
+        Row::Var { name, low, high }
+    } else {
+        Row::Fresh
+    }
+}
+
+/// For each row whether it is `edited` or leads back to it, through references and from a VAR to the
+/// first of its name.
+fn leading_back(rows: &[Row], edited: Ref, watch: &mut impl Watch) -> Vec<bool> {
     let mut leads = vec![false; rows.len()];
     leads[edited] = true;
     for number in edited + 1..rows.len() {
-        leads[number] = rows[number].references().any(|reference| leads[reference]);
+        let by_reference = rows[number].references().any(|reference| leads[reference]);
+        let first = first_of_name(&rows[..number], rows[number]);
+        let by_name = first.is_some_and(|first| leads[first]);
+        if by_name {
+            watch.saw(Event::LedBackByName);
+        }
+        leads[number] = by_reference || by_name;
     }
     leads
 }

@@ -9,10 +9,11 @@ pub enum Sort {
     Array,
 }
 
+/// A row. The name 0 of a variable is none.
 #[derive(Clone, Copy, PartialEq, Eq, Debug)]
 pub enum Row {
     Const { k: u64 },
-    Var { low: u64, high: u64 },
+    Var { name: u16, low: u64, high: u64 },
     Shift { a: Ref, k: u64 },
     Sum { a: Ref, b: Ref, k: u64 },
     Diff { a: Ref, b: Ref, k: u64 },
@@ -32,6 +33,14 @@ impl Row {
 
     pub fn is_read(self) -> bool {
         matches!(self, Row::Read { .. })
+    }
+
+    /// The name of a variable that has one.
+    pub fn name(self) -> Option<u16> {
+        match self {
+            Row::Var { name, .. } if name != 0 => Some(name),
+            _ => None,
+        }
     }
 
     pub fn references(self) -> impl Iterator<Item = Ref> {

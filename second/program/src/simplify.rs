@@ -38,6 +38,15 @@ impl<'w, W: Watch> Simplifier<'w, W> {
         self.ranges.push(range);
     }
 
+    /// Takes as the next result row a VAR of a name that row `first` was the first to have.
+    pub fn settle_as_first(&mut self, first: Ref) {
+        self.watch.saw(match self.rows[first] {
+            Row::Var { .. } => Event::NameSeenAgain,
+            _ => Event::NameSeenAgainOverOther,
+        });
+        self.settle(Row::Shift { a: first, k: 0 });
+    }
+
     /// Works the next row out by its rule.
     pub fn work_out(&mut self, row: Row) {
         let row = match row {
@@ -221,7 +230,7 @@ impl<'w, W: Watch> Simplifier<'w, W> {
     fn range(&mut self, row: Row) -> Range {
         match row {
             Row::Const { k } => Range::only(k),
-            Row::Var { low, high } => Range { low, high },
+            Row::Var { low, high, .. } => Range { low, high },
             Row::Read { .. } | Row::Fresh | Row::Write { .. } => Range::full(self.width),
             Row::Shift { a, k } => self.plus(self.ranges[a], Range::only(k)),
             Row::Sum { a, b, k } => {

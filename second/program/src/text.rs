@@ -57,8 +57,9 @@ fn refusal_line(answer: Answer) -> String {
 }
 
 /// A table from `width 8` and rows such as `SHIFT 0 248 @6`, each on a line or ended by a semicolon;
-/// `#` begins a remark. `@` and the instruction number end a row; without them it is 0. Nothing is
-/// checked but the words and the width, so that refused tables can be written too.
+/// `#` begins a remark. `@` and the instruction number end a row; without them it is 0. A VAR begins
+/// with its name, or has none. Nothing is checked but the words and the width, so that refused tables
+/// can be written too.
 pub fn packed(text: &str) -> Result<Vec<u8>, String> {
     let mut width = None;
     let (mut rows, mut sources) = (Vec::new(), Vec::new());
@@ -95,7 +96,10 @@ fn unnumbered(name: &str, values: &[u64]) -> Option<Row> {
     let reference = |i: usize| values[i] as usize;
     Some(match (name, values.len()) {
         ("CONST", 1) => Row::Const { k: values[0] },
-        ("VAR", 2) => Row::Var { low: values[0], high: values[1] },
+        ("VAR", 2) => Row::Var { name: 0, low: values[0], high: values[1] },
+        ("VAR", 3) => {
+            Row::Var { name: values[0].try_into().ok()?, low: values[1], high: values[2] }
+        }
         ("SHIFT", 2) => Row::Shift { a: reference(0), k: values[1] },
         ("SUM", 3) => Row::Sum { a: reference(0), b: reference(1), k: values[2] },
         ("DIFF", 3) => Row::Diff { a: reference(0), b: reference(1), k: values[2] },

@@ -5,7 +5,7 @@ use second::{Row, Width};
 /// A variable, an array, then stores at the base plus 1, 2, 3 and so on; the last quarter of
 /// the rows reads the oldest places, so that each read passes nearly all the stores.
 pub fn rows(width: Width, count: usize) -> Vec<Row> {
-    let mut rows = vec![Row::Var { low: 0, high: width.largest() }, Row::Fresh];
+    let mut rows = vec![Row::Var { name: 0, low: 0, high: width.largest() }, Row::Fresh];
     rows.truncate(count);
     let mut memory = 1;
     let mut places = Vec::new();

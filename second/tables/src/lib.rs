@@ -3,6 +3,7 @@
 
 pub mod chain;
 pub mod machine;
+pub mod names;
 pub mod random;
 pub mod sources;
 pub mod wellformed;

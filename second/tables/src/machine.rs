@@ -1,5 +1,5 @@
-//! Tables like those of machine code: a stack pointer moved by calls, a heap beside it, and
-//! pointers read from memory.
+//! Tables like those of machine code: a stack pointer moved by calls, a heap beside it, pointers
+//! read from memory, and registers that are recorded again at each re-entry.
 
 use crate::random::Random;
 use second::{Ref, Row, Width};
@@ -9,6 +9,10 @@ pub struct Habits {
     pub heap: bool,
     /// One step in so many goes through a pointer read from memory; 0 for none.
     pub pointers_one_in: usize,
+    /// One step in so many is a re-entry; 0 for none.
+    pub re_entries_one_in: usize,
+    /// The names of the stack and heap registers.
+    pub names: [u16; 2],
     /// Whether the stack's range may cross zero or meet the heap.
     pub careless: bool,
 }
@@ -25,13 +29,23 @@ struct Machine<'r> {
     values: Vec<Ref>,
     /// How many words lie on the stack, so that returns match calls.
     depth: usize,
+    /// The registers as they were first recorded, stack and heap.
+    registers: Vec<Row>,
 }
 
 pub fn rows(random: &mut Random, width: Width, count: usize, habits: Habits) -> Vec<Row> {
-    let (rows, values) = (Vec::with_capacity(count), Vec::new());
-    let (stack, heap, memory, depth) = (0, 0, 0, 0);
-    let mut machine =
-        Machine { random, width, most_rows: count, rows, stack, heap, memory, values, depth };
+    let mut machine = Machine {
+        random,
+        width,
+        most_rows: count,
+        rows: Vec::with_capacity(count),
+        stack: 0,
+        heap: 0,
+        memory: 0,
+        values: Vec::new(),
+        depth: 0,
+        registers: Vec::new(),
+    };
     // None only says that the rows are used up.
     let _ = machine.live(habits);
     machine.rows
@@ -53,15 +67,19 @@ impl Machine<'_> {
             low = self.random.word(self.width);
             high = low + self.random.from_to(0, (largest - low) / 4);
         }
-        self.stack = self.push(Row::Var { low, high })?;
-        self.heap = self.stack;
+        let [stack, heap] = habits.names;
+        self.registers.push(Row::Var { name: stack, low, high });
         if habits.heap {
-            self.heap = self.push(Row::Var { low: largest / 8, high: largest / 4 })?;
+            self.registers.push(Row::Var { name: heap, low: largest / 8, high: largest / 4 });
         }
+        self.enter()?;
         self.memory = self.push(Row::Fresh)?;
         let first = self.push(Row::Const { k: 0 })?;
         self.values.push(first);
         loop {
+            if habits.re_entries_one_in != 0 && self.random.one_in(habits.re_entries_one_in) {
+                self.enter()?;
+            }
             if habits.pointers_one_in != 0 && self.random.one_in(habits.pointers_one_in) {
                 self.through_pointer()?;
             }
@@ -75,6 +93,17 @@ impl Machine<'_> {
                 _ => self.load(self.heap)?,
             }
         }
+    }
+
+    /// Records the registers.
+    fn enter(&mut self) -> Option<()> {
+        self.stack = self.push(self.registers[0])?;
+        self.heap = self.stack;
+        if let Some(heap) = self.registers.get(1) {
+            self.heap = self.push(*heap)?;
+        }
+        self.depth = 0;
+        Some(())
     }
 
     fn unit(&self) -> u64 {

@@ -1,30 +1,38 @@
 //! Tables of every kind of row, without a story: each row is any that may stand there.
 
+use crate::names::{self, Bounds};
 use crate::random::Random;
 use second::{Ref, Row, Sort, Width};
 
-/// The rows that a new row may name.
+/// What a row finds in its place: the rows that it may refer to, and bounds that it must share.
 #[derive(Default)]
-pub struct Earlier {
+pub struct Place {
     words: Vec<Ref>,
     arrays: Vec<Ref>,
+    pub bounds: Bounds,
 }
 
-impl Earlier {
-    pub fn of(rows: &[Row]) -> Earlier {
-        let mut earlier = Earlier::default();
-        for row in rows {
-            earlier.add(*row);
+impl Place {
+    /// The place of row `number` among `rows`.
+    pub fn of(number: Ref, rows: &[Row]) -> Place {
+        let mut place = Place::default();
+        for row in &rows[..number] {
+            place.pass(*row);
         }
-        earlier
+        for row in rows.iter().skip(number + 1) {
+            place.bounds.add(*row);
+        }
+        place
     }
 
-    fn add(&mut self, row: Row) {
+    /// Goes on to the place behind a row.
+    fn pass(&mut self, row: Row) {
         let number = self.words.len() + self.arrays.len();
         match row.sort() {
             Sort::Word => self.words.push(number),
             Sort::Array => self.arrays.push(number),
         }
+        self.bounds.add(row);
     }
 }
 
@@ -35,6 +43,7 @@ pub struct Taste {
     /// Few offsets make many rows the same.
     offsets: Vec<u64>,
     narrow: bool,
+    names: Vec<u16>,
 }
 
 impl Taste {
@@ -42,7 +51,17 @@ impl Taste {
         let weights = std::array::from_fn(|_| random.pick(&[1, 1, 2, 4, 8]));
         let count = random.pick(&[1, 2, 4, 16]);
         let offsets = (0..count).map(|_| random.word(width)).collect();
-        Taste { width, weights, offsets, narrow: random.one_in(2) }
+        Taste { width, weights, offsets, narrow: random.one_in(2), names: names::few(random) }
+    }
+
+    pub fn with_names(self, names: Vec<u16>) -> Taste {
+        Taste { names, ..self }
+    }
+
+    /// With a variable in every other word row.
+    pub fn with_variables(mut self) -> Taste {
+        self.weights[1] = self.weights.iter().sum();
+        self
     }
 
     fn offset(&self, random: &mut Random) -> u64 {
@@ -53,7 +72,13 @@ impl Taste {
         }
     }
 
-    pub fn variable(&self, random: &mut Random) -> Row {
+    pub fn variable(&self, random: &mut Random, place: &Place) -> Row {
+        let name = random.pick(&self.names);
+        let bounds = self.bounds(random);
+        place.bounds.variable(name, bounds)
+    }
+
+    pub fn bounds(&self, random: &mut Random) -> [u64; 2] {
         let largest = self.width.largest();
         let low = random.word(self.width);
         let room = largest - low;
@@ -64,13 +89,13 @@ impl Taste {
             _ => low + random.from_to(0, room.min(size)),
         };
         match random.below(8) {
-            0 => Row::Var { low: 0, high: largest },
-            1 => Row::Var { low: 0, high },
-            _ => Row::Var { low, high },
+            0 => [0, largest],
+            1 => [0, high],
+            _ => [low, high],
         }
     }
 
-    fn word(&self, random: &mut Random, earlier: &Earlier) -> Row {
+    fn word(&self, random: &mut Random, place: &Place) -> Row {
         let total: usize = self.weights.iter().sum();
         let mut left = random.below(total);
         let mut kind = 0;
@@ -78,38 +103,38 @@ impl Taste {
             left -= self.weights[kind];
             kind += 1;
         }
-        if kind == 0 || earlier.words.is_empty() && random.one_in(2) {
+        if kind == 0 || place.words.is_empty() && random.one_in(2) {
             return Row::Const { k: self.offset(random) };
         }
-        if kind == 1 || earlier.words.is_empty() || kind == 6 && earlier.arrays.is_empty() {
-            return self.variable(random);
+        if kind == 1 || place.words.is_empty() || kind == 6 && place.arrays.is_empty() {
+            return self.variable(random, place);
         }
-        let (a, b) = (near(random, &earlier.words), near(random, &earlier.words));
+        let (a, b) = (near(random, &place.words), near(random, &place.words));
         let k = self.offset(random);
         match kind {
             2 => Row::Shift { a, k },
             3 => Row::Sum { a, b, k },
             4 => Row::Diff { a, b, k },
             5 => Row::Neg { a, k },
-            _ => Row::Read { array: near(random, &earlier.arrays), index: b },
+            _ => Row::Read { array: near(random, &place.arrays), index: b },
         }
     }
 
-    fn array(&self, random: &mut Random, earlier: &Earlier) -> Row {
-        if earlier.arrays.is_empty() || earlier.words.is_empty() || random.one_in(12) {
+    fn array(&self, random: &mut Random, place: &Place) -> Row {
+        if place.arrays.is_empty() || place.words.is_empty() || random.one_in(12) {
             return Row::Fresh;
         }
         Row::Write {
-            array: near(random, &earlier.arrays),
-            index: near(random, &earlier.words),
-            value: near(random, &earlier.words),
+            array: near(random, &place.arrays),
+            index: near(random, &place.words),
+            value: near(random, &place.words),
         }
     }
 
-    pub fn row(&self, random: &mut Random, sort: Sort, earlier: &Earlier) -> Row {
+    pub fn row(&self, random: &mut Random, sort: Sort, place: &Place) -> Row {
         match sort {
-            Sort::Word => self.word(random, earlier),
-            Sort::Array => self.array(random, earlier),
+            Sort::Word => self.word(random, place),
+            Sort::Array => self.array(random, place),
         }
     }
 }
@@ -125,21 +150,25 @@ fn near(random: &mut Random, from: &[Ref]) -> Ref {
 }
 
 pub fn rows(random: &mut Random, width: Width, count: usize) -> Vec<Row> {
+    let taste = Taste::new(random, width);
+    rows_of(random, &taste, count)
+}
+
+pub fn rows_of(random: &mut Random, taste: &Taste, count: usize) -> Vec<Row> {
     let one_array_in = random.pick(&[2, 3, 5, 12]);
     let sorts: Vec<Sort> = (0..count)
         .map(|_| if random.one_in(one_array_in) { Sort::Array } else { Sort::Word })
         .collect();
-    rows_of_sorts(random, width, &sorts)
+    rows_of_sorts(random, taste, &sorts)
 }
 
-pub fn rows_of_sorts(random: &mut Random, width: Width, sorts: &[Sort]) -> Vec<Row> {
-    let taste = Taste::new(random, width);
-    let mut earlier = Earlier::default();
+pub fn rows_of_sorts(random: &mut Random, taste: &Taste, sorts: &[Sort]) -> Vec<Row> {
+    let mut place = Place::default();
     sorts
         .iter()
         .map(|sort| {
-            let row = taste.row(random, *sort, &earlier);
-            earlier.add(row);
+            let row = taste.row(random, *sort, &place);
+            place.pass(row);
             row
         })
         .collect()

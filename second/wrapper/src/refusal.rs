@@ -1,7 +1,7 @@
 //! Why a call was refused.
 
-/// The refusals in their order; include/stezkoun.h says what each means. The length of a list is
-/// what to lend for it.
+/// The refusals by their numbers; include/stezkoun.h says what each means, and their order. The length
+/// of a list is what to lend for it.
 #[derive(Clone, Copy, PartialEq, Eq, Debug)]
 pub enum Refusal {
     TableTooShort,
@@ -21,6 +21,7 @@ pub enum Refusal {
     Bounds { row: u64 },
     KeptResult,
     NotARead { row: u64 },
+    OtherBounds { row: u64 },
     ListTooShort { length: u64 },
 }
 
@@ -45,6 +46,7 @@ impl Refusal {
             15 => Refusal::Bounds { row },
             16 => Refusal::KeptResult,
             17 => Refusal::NotARead { row },
+            18 => Refusal::OtherBounds { row },
             22 => Refusal::ListTooShort { length },
             other => unreachable!("libstezkoun gave refusal {other}"),
         })

@@ -1,5 +1,6 @@
 use borrow.Author.Needs.{needs}
-use Rattle.bytes.proofs.Numbers.{number-four}
+use Rattle.bytes.specs.Numbers.{number}
+use native.Mathlib.Nat.{add-assoc}
 use native.Mathlib.Omega.{arith}
 use Rattle.bytes.proofs.four.Statement.{statement}
 use Rattle.bytes.proofs.four.Tie as tie
@@ -44,7 +45,8 @@ add-result-3 : tie.Need-add-result-3
 add-result-3 c = search needs
 
 returns : tie.Need-returns
-returns c = rw number-four (omega arith)
+unfolding number
+returns c = simp add-assoc (omega arith)
 
 pub four-spec : {M : Type 1} → statement M
 four-spec =

@@ -2,21 +2,21 @@ use borrow.Author.Needs.{needs}
 use Prim.Native.Nat.{_-_}
 use native.Mathlib.Omega.{arith}
 use Rattle.table.proofs.Heads.{long-head}
-use Rattle.table.proofs.Scan.{Scanning, Looking, entered, row-room, own-asked, looking, named-asked, looked, passed, passed-all, stopped-own, stopped-13, stopped-14, stopped-15}
+use Rattle.table.proofs.Scan.{Scanning, Looking, entered, row-room, own-asked, looking, named-asked, looked, first-asked, bounds-asked, passed, passed-all, stopped-own, stopped-13, stopped-14, stopped-15, stopped-18}
 use Rattle.table.proofs.check_rows.Statement.{statement}
 use Rattle.table.proofs.check_rows.Tie as tie
 
 abbrev Inv-loop : tie.InvT-loop
-Inv-loop t w n r row x u number mixed₀ f₀ mixed f = Looking t w n r x u mixed f
+Inv-loop t w n slots r row x u number mixed₀ f₀ mixed f = Looking t w n slots r x u mixed f
 
 abbrev μ-loop : tie.MeasureT-loop
-μ-loop t w n r row x u number mixed₀ f₀ mixed f = 3 - f
+μ-loop t w n slots r row x u number mixed₀ f₀ mixed f = 3 - f
 
 abbrev Inv-rows : tie.InvT-rows
-Inv-rows t w n r₀ r = Scanning t w n r
+Inv-rows t w n slots₀ r₀ slots r = Scanning t w n slots r
 
 abbrev μ-rows : tie.MeasureT-rows
-μ-rows t w n r₀ r = n - r
+μ-rows t w n slots₀ r₀ slots r = n - r
 
 width-of-requires : tie.Need-width-of-requires Inv-loop μ-loop Inv-rows μ-rows
 width-of-requires c κs = search long-head
@@ -44,7 +44,7 @@ not-below-requires c κs = search needs
 
 wrong-sort-requires : tie.Need-wrong-sort-requires Inv-loop μ-loop Inv-rows μ-rows
 wrong-sort-requires c κs =
-    named-asked _ _ _ _ _ _ _ _ (c .before .before .before .loop .inv) (omega arith) (c .before .not-below .ensures) (c .if3 .left)
+    named-asked _ _ _ _ _ _ _ _ _ (c .before .before .before .loop .inv) (omega arith) (c .before .not-below .ensures) (c .if3 .left)
 
 add-f : tie.Need-add-f Inv-loop μ-loop Inv-rows μ-rows
 add-f c = omega arith
@@ -54,10 +54,16 @@ loop-less c = omega arith
 
 loop-again : tie.Need-loop-again Inv-loop μ-loop Inv-rows μ-rows
 loop-again c =
-    looked _ _ _ _ _ _ _ _ (c .before .before .before .before .loop .inv) (omega arith) (c .before .before .not-below .ensures) (c .before .if3 .left) (c .wrong-sort .ensures)
+    looked _ _ _ _ _ _ _ _ _ (c .before .before .before .before .loop .inv) (omega arith) (c .before .before .not-below .ensures) (c .before .if3 .left) (c .wrong-sort .ensures)
 
 bounds-crossed-requires : tie.Need-bounds-crossed-requires Inv-loop μ-loop Inv-rows μ-rows
 bounds-crossed-requires c κs = tt
+
+first-of-requires : tie.Need-first-of-requires Inv-loop μ-loop Inv-rows μ-rows
+first-of-requires c κs = search first-asked
+
+other-bounds-requires : tie.Need-other-bounds-requires Inv-loop μ-loop Inv-rows μ-rows
+other-bounds-requires c κs = search bounds-asked
 
 add-r : tie.Need-add-r Inv-loop μ-loop Inv-rows μ-rows
 add-r c = omega arith
@@ -83,6 +89,9 @@ returns-4 c = search stopped-14
 returns-5 : tie.Need-returns-5 Inv-loop μ-loop Inv-rows μ-rows
 returns-5 c = search stopped-15
 
+returns-6 : tie.Need-returns-6 Inv-loop μ-loop Inv-rows μ-rows
+returns-6 c = search stopped-18
+
 pub check-rows-spec : {M : Type 1} → statement M
 check-rows-spec =
     tie.close
@@ -104,6 +113,8 @@ check-rows-spec =
     loop-less
     loop-again
     bounds-crossed-requires
+    first-of-requires
+    other-bounds-requires
     add-r
     rows-less
     rows-again
@@ -111,4 +122,5 @@ check-rows-spec =
     returns-2
     returns-3
     returns-4
-    returns-5)
+    returns-5
+    returns-6)

@@ -1,5 +1,5 @@
 use borrow.Author.Needs.{needs}
-use Rattle.table.proofs.Fields.{named-room, unused-sort, used-sort}
+use Rattle.table.proofs.Fields.{named-room, no-sort, reference-sort}
 use Rattle.table.proofs.wrong_sort.Statement.{statement}
 use Rattle.table.proofs.wrong_sort.Tie as tie
 
@@ -7,7 +7,7 @@ use-at-requires : tie.Need-use-at-requires
 use-at-requires c κs = search needs
 
 returns : tie.Need-returns
-returns c = search unused-sort
+returns c = search no-sort
 
 reference-requires : tie.Need-reference-requires
 reference-requires c κs = search needs
@@ -19,7 +19,7 @@ sort-requires : tie.Need-sort-requires
 sort-requires c κs = search needs
 
 returns-2 : tie.Need-returns-2
-returns-2 c = search used-sort
+returns-2 c = search reference-sort
 
 pub wrong-sort-spec : {M : Type 1} → statement M
 wrong-sort-spec =

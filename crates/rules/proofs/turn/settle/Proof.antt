@@ -1,13 +1,10 @@
 use borrow.Author.Needs.{needs}
-use Rattle.rules.proofs.Turns.{settle-asks, settle-traced, settle-made, settle-kept}
+use Rattle.rules.proofs.Turns.{settle-makes, settle-made, settle-kept}
 use Rattle.rules.proofs.turn.settle.Statement.{statement}
 use Rattle.rules.proofs.turn.settle.Tie as tie
 
-decode-requires : tie.Need-decode-requires
-decode-requires c κs = search needs
-
-rewrite-requires : tie.Need-rewrite-requires
-rewrite-requires c κs = search (settle-asks, settle-traced)
+made-requires : tie.Need-made-requires
+made-requires c κs = search settle-makes
 
 source-at-requires : tie.Need-source-at-requires
 source-at-requires c κs = search needs
@@ -21,8 +18,8 @@ same-length c = search needs
 returns : tie.Need-returns
 returns c = search settle-made
 
-decode-requires-2 : tie.Need-decode-requires-2
-decode-requires-2 c κs = search needs
+decode-requires : tie.Need-decode-requires
+decode-requires c κs = search needs
 
 same-length-2 : tie.Need-same-length-2
 same-length-2 c = search needs
@@ -34,12 +31,11 @@ pub settle-spec : {M : Type 1} → statement M
 settle-spec =
     tie.close
     (tie.spec
-    decode-requires
-    rewrite-requires
+    made-requires
     source-at-requires
     put-requires
     same-length
     returns
-    decode-requires-2
+    decode-requires
     same-length-2
     returns-2)

@@ -48,8 +48,11 @@ same-length-4 c = search needs
 returns-2 : tie.Need-returns-2
 returns-2 c = edited-refused _ _ _ _ (c .before .before .before .before .before .before .before .before .before .before .before .before .before .before .before .before .before .before .before .before .edit .ensures) (c .before .before .before .before .before .before .before .before .before .before .before .before .before .before .before .before .before .before .before .if1 .left) (c .before .before .before .before .before .before .before .before .before .before .before .before .before .put-row .ensures) (c .before .before .before .before .before .before .before .before .before .before .before .before .before .before .before .before .take-row .ensures) (c .before .before .before .before .before .before .before .before .edited .ensures) (c .before .before .before .before .before .before .if2 .taken) (c .before .before .before .put-row2 .ensures) (c .refused2 .ensures)
 
+slice-aggregate-patch : tie.Need-slice-aggregate-patch
+slice-aggregate-patch c = search needs
+
 patch-requires : tie.Need-patch-requires
-patch-requires c κs = edit-patches _ _ _ _ (c .before .before .before .before .before .before .before .before .before .before .before .before .before .before .before .before .edit .ensures) (c .before .before .before .before .before .before .before .before .before .before .before .before .before .before .before .if1 .left) (c .before .before .before .before .before .before .before .before .before .put-row .ensures) (c .before .before .before .before .before .before .before .before .before .before .before .before .take-row .ensures) (c .before .before .before .before .edited .ensures) (c .before .before .if2 .left)
+patch-requires c κs = edit-patches _ _ _ _ (c .before .before .before .before .before .before .before .before .before .before .before .before .before .before .before .before .before .edit .ensures) (c .before .before .before .before .before .before .before .before .before .before .before .before .before .before .before .before .if1 .left) (c .before .before .before .before .before .before .before .before .before .before .put-row .ensures) (c .before .before .before .before .before .before .before .before .before .before .before .before .before .take-row .ensures) (c .before .before .before .before .before .edited .ensures) (c .before .before .before .if2 .left)
 
 same-length-5 : tie.Need-same-length-5
 same-length-5 c = search needs
@@ -58,7 +61,7 @@ same-length-6 : tie.Need-same-length-6
 same-length-6 c = search needs
 
 returns-3 : tie.Need-returns-3
-returns-3 c = edit-done _ _ _ _ (c .before .before .before .before .before .before .before .before .before .before .before .before .before .before .before .before .before .before .before .edit .ensures) (c .before .before .before .before .before .before .before .before .before .before .before .before .before .before .before .before .before .before .if1 .left) (c .before .before .before .before .before .before .before .before .before .before .before .before .put-row .ensures) (c .before .before .before .before .before .before .before .before .before .before .before .before .before .before .before .take-row .ensures) (c .before .before .before .before .before .before .before .edited .ensures) (c .before .before .before .before .before .if2 .left) (c .before .before .patch .ensures)
+returns-3 c = edit-done _ _ _ _ (c .before .before .before .before .before .before .before .before .before .before .before .before .before .before .before .before .before .before .before .before .edit .ensures) (c .before .before .before .before .before .before .before .before .before .before .before .before .before .before .before .before .before .before .before .if1 .left) (c .before .before .before .before .before .before .before .before .before .before .before .before .before .put-row .ensures) (c .before .before .before .before .before .before .before .before .before .before .before .before .before .before .before .before .take-row .ensures) (c .before .before .before .before .before .before .before .before .edited .ensures) (c .before .before .before .before .before .before .if2 .left) (c .before .before .patch .ensures)
 
 pub edit-spec : {M : Type 1} → statement M
 edit-spec =
@@ -79,6 +82,7 @@ edit-spec =
     same-length-3
     same-length-4
     returns-2
+    slice-aggregate-patch
     patch-requires
     same-length-5
     same-length-6

@@ -1,18 +1,20 @@
 use borrow.Author.Needs.{needs}
 use Prim.Native.Nat.{_-_}
-use Rattle.simplify.proofs.Turning.{loop-asks, loop-fits, loop-next}
-use Rattle.simplify.proofs.Renewing.{Renewing, begun, finished, same-size}
+use Rattle.simplify.proofs.Turning.{Rounds, rounds-begun, loop-finds, loop-asks, loop-fits, loop-next, loop-same-size, loop-done}
 use Rattle.simplify.proofs.renew.renew.Statement.{statement}
 use Rattle.simplify.proofs.renew.renew.Tie as tie
 
 abbrev Inv-loop : tie.InvT-loop
-Inv-loop table result₀ store₀ marks w n removed₀ r₀ result store removed r = Renewing table result₀ marks w n r result store removed
+Inv-loop table result₀ store₀ marks w n slots₀ removed₀ r₀ result store slots removed r = Rounds table result₀ marks w n r result store slots removed
 
 abbrev μ-loop : tie.MeasureT-loop
-μ-loop table result₀ store₀ marks w n removed₀ r₀ result store removed r = n - r
+μ-loop table result₀ store₀ marks w n slots₀ removed₀ r₀ result store slots removed r = n - r
 
 loop-holds : tie.Need-loop-holds Inv-loop μ-loop
-loop-holds c = search begun
+loop-holds c = search rounds-begun
+
+first-of-requires : tie.Need-first-of-requires Inv-loop μ-loop
+first-of-requires c κs = search loop-finds
 
 turn-requires : tie.Need-turn-requires Inv-loop μ-loop
 turn-requires c κs = search loop-asks
@@ -30,10 +32,10 @@ loop-again : tie.Need-loop-again Inv-loop μ-loop
 loop-again c = search loop-next
 
 same-length : tie.Need-same-length Inv-loop μ-loop
-same-length c = search same-size
+same-length c = search loop-same-size
 
 returns : tie.Need-returns Inv-loop μ-loop
-returns c = search finished
+returns c = search loop-done
 
 pub renew-spec : {M : Type 1} → statement M
 renew-spec =
@@ -42,6 +44,7 @@ renew-spec =
     Inv-loop
     μ-loop
     loop-holds
+    first-of-requires
     turn-requires
     add-removed
     add-r

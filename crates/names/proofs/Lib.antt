@@ -1,0 +1,3 @@
+-- Laws of names.
+pub mod First
+pub mod Slots
