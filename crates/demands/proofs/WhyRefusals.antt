@@ -1,4 +1,4 @@
--- The refusals of `why`, given exactly when: 1 to 7 in their order, then 9 to 15 of the first faulty row, then 17, then 22; accepted exactly when none holds.
+-- The refusals of `why`, given exactly when: 1 to 7 in their order, then 9 to 15 and 18 of the first faulty row, then 17, then 22; accepted exactly when none holds.
 use Prim.Native.Nat.{ℕ, _≤_, _<_}
 use native.Mathlib.Omega.{arith}
 use mathlib.Core.Path.{_≡_, refl, sym, ap, subst₂, _∙_}
@@ -24,7 +24,7 @@ use Rattle.judge.proofs.Verdicts.{is-accepted, given-number, given-after, rows-
 use Rattle.judge.proofs.Granted.{Roomy, roomy, room-numbered}
 use Rattle.explanation.specs.Why.{listOf, rowReasons, readReasons, spaceReasons, whyVerdict}
 
--- none of 1 to 7 and of 9 to 15 holds
+-- none of 1 to 7, of 9 to 15 and of 18 holds
 pub record Asked (t buffer : List ℕ) (x : ℕ) : Type 0 where
   pub table : checkTable t ≡ accepted
   pub room : length t ≤ length buffer
@@ -40,7 +40,7 @@ pub record WhyGranted (t buffer : List ℕ) (x : ℕ) (space : List ℕ) : Type 
 pub data WhyRefused (t buffer : List ℕ) (x : ℕ) (space : List ℕ) : ℕ → ℕ → Type 0 where
   -- 1 to 7, the first of them that holds, with row 0
   early : {number : ℕ} → FirstHolds number (rowReasons t buffer x) → WhyRefused t buffer x space number 0
-  -- 9 to 15, where none of 1 to 7 holds: the first of the first faulty row, with that row
+  -- 9 to 15 and 18, where none of 1 to 7 holds: the first of the first faulty row, with that row
   by-row : {number row : ℕ} → NoneHolds (rowReasons t buffer x) → RowRefused t number row → WhyRefused t buffer x space number row
   -- 17, where none of 1 to 15 holds: row x is no READ
   no-read : Asked t buffer x → isRead (look t x) ≡ false → WhyRefused t buffer x space 17 x

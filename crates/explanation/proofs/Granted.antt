@@ -27,7 +27,7 @@ use Rattle.explanation.specs.Why.{listing, whyAnswer, whyResult, whyList
 use Rattle.explanation.specs.Ready.{Explainable}
 
 module _ {t buffer : List ℕ} {x : ℕ} (can : Explainable t buffer x) where
-  -- 1 to 7, then 9 to 15, then 17 do not hold
+  -- 1 to 7, then 9 to 15 and 18, then 17 do not hold
   row-passes : first (rowReasons t buffer x) ≡ 0
   unfolding rowReasons runVerdict first
   row-passes =

@@ -37,7 +37,7 @@ readReasons t x = 17 when not (isRead (look t x)) ∷ []
 unfoldable pub spaceReasons : List ℕ → ℕ → List ℕ → List Reason
 spaceReasons t x space = 22 when ltb (length space) (length (listOf t x)) ∷ []
 
--- 1 to 7; then 9 to 15; then 17; then 22
+-- 1 to 7; then 9 to 15 and 18; then 17; then 22
 unfoldable pub whyVerdict : List ℕ → List ℕ → ℕ → List ℕ → Verdict
 whyVerdict t buffer x space =
     given (first (rowReasons t buffer x)) 0

@@ -22,7 +22,7 @@ pub fn row(t: &[u8], buffer: &[u8], x: u64) -> u64
     0
 }
 
-// 9 to 15, then 17.
+// 9 to 15 and 18, then 17.
 pub fn read(t: &[u8], x: usize) -> Verdict
     requires { ⌜ There (now t) x ⌝ }
     ensures { λ v. ⌜ v ≡ checkRows (now (t .entry)) (given (first (readReasons (now (t .entry)) x)) x accepted) ⌝ }

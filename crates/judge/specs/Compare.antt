@@ -1,4 +1,4 @@
--- What a comparison is refused for beside 9 to 15: 1 to 7, and 14 at the end for a number that names an array row (document 01, "Comparison").
+-- What a comparison is refused for beside 9 to 15 and 18: 1 to 7, and 14 at the end for a number that names an array row (document 01, "Comparison").
 use Prim.Native.Nat.{ℕ}
 use mathlib.Core.Bool.{_||_}
 use mathlib.Core.List.{List, [], _∷_, _++_}

@@ -1,4 +1,4 @@
--- What an edit is refused for beside 9 to 15: 1 to 8, and 16 at the end (document 01, "What is answered" and "Edit").
+-- What an edit is refused for beside 9 to 15 and 18: 1 to 8, and 16 at the end (document 01, "What is answered" and "Edit").
 use Prim.Native.Nat.{ℕ}
 use mathlib.Core.Bool.{Bool, Bool·beq, not, _||_}
 use mathlib.Core.List.{List, [], _∷_, _++_}

@@ -1,4 +1,4 @@
--- What a fresh run is refused for: 1 to 6, which every call begins with, then 9 to 15 (document 01, "What is answered").
+-- What a fresh run is refused for: 1 to 6, which every call begins with, then 9 to 15 and 18 (document 01, "What is answered"; document 02, A2).
 use Prim.Native.Nat.{ℕ}
 use mathlib.Core.List.{List, [], _∷_, _++_}
 use lib.ListN.{length}

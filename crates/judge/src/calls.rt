@@ -26,7 +26,7 @@ pub fn room(t: &[u8], buffer: &[u8]) -> u64
     0
 }
 
-// A fresh run: 1 to 6, then 9 to 15.
+// A fresh run: 1 to 6, then 9 to 15 and 18.
 pub fn run(t: &[u8], buffer: &[u8]) -> Verdict
     ensures { λ v. ⌜ v ≡ runVerdict (now (t .entry)) (now (buffer .entry)) ⌝ }
 {
@@ -84,7 +84,7 @@ pub fn is_array(t: &[u8], x: usize) -> bool
     table::is_array(Row::kind_at(t, x))
 }
 
-// 9 to 15 of a comparison, then 14 for a number that names an array row.
+// 9 to 15 and 18 of a comparison, then 14 for a number that names an array row.
 pub fn words(t: &[u8], x: usize, y: usize) -> Verdict
     requires { ⌜ PairThere (now t) x y ⌝ }
     ensures { λ v. ⌜ v ≡ checkRows (now (t .entry)) (arrayVerdict (now (t .entry)) x y) ⌝ }
@@ -108,7 +108,7 @@ pub fn words(t: &[u8], x: usize, y: usize) -> Verdict
     Verdict { number: 0, row: 0 }
 }
 
-// 9 to 15 of an edit, with the replacement in place, then 16.
+// 9 to 15 and 18 of an edit, with the replacement in place, then 16.
 pub fn edited(t: &[u8], kept: &[u8]) -> Verdict
     requires { ⌜ EditThere (now t) (now kept) ⌝ }
     ensures { λ v. ⌜ v ≡ checkRows (now (t .entry)) (keptVerdict (now (t .entry)) (keptPart (now (t .entry)) (now (kept .entry)))) ⌝ }

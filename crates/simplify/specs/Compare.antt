@@ -18,7 +18,7 @@ use Rattle.simplify.specs.declared.Comparison.{Comparison}
 use Rattle.simplify.specs.Answer.{modulus, answer, answered}
 use Rattle.simplify.specs.Run.{freshRows, freshBytes}
 
--- 1 to 7; then 9 to 15; then 14 for a number that names an array row
+-- 1 to 7; then 9 to 15 and 18; then 14 for a number that names an array row
 unfoldable pub compareVerdict : List ℕ → List ℕ → ℕ → ℕ → Verdict
 compareVerdict t buffer x y = given (first (pairReasons t buffer x y)) 0 (checkRows t (arrayVerdict t x y))
 

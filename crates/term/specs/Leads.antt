@@ -1,4 +1,5 @@
--- Leading back: document 01, "the rows that lead back to r through one or more references".
+-- Leading back: document 01, "the rows that lead back to r through one or more references". A later VAR of a name leads back to the first (document 02, A2): it
+-- refers to it in the table as it is `seen`, which is what the demands say `LeadsBack` of.
 use Prim.Native.Nat.{ℕ}
 use mathlib.Core.Path.{_≡_}
 use mathlib.Core.Logic.{_⊎_}
