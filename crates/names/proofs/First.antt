@@ -1,6 +1,6 @@
 -- The first row of a name: where it stands, that it is one, and that it is the first.
 use Prim.Native.Nat.{ℕ, zero, suc, _≤_, _<_}
-use native.Mathlib.Nat.{le-refl}
+use native.Mathlib.Nat.{le-refl, lt-trans}
 use native.Mathlib.Omega.{arith}
 use native.Mathlib.Decide.{decLt, ℕ-discrete}
 use mathlib.Core.Path.{_≡_, refl, sym, ap, _∙_}
@@ -48,12 +48,9 @@ module _ (names : ℕ → ℕ) (name : ℕ) where
   -- a row below n of the name, before which there is none, is the first
   pub first-found : (n y : ℕ) → y < n → names y ≡ name → ((z : ℕ) → z < y → names z ≡ name → ⊥) → firstNamed names name n ≡ y
   first-found n y l e none =
-      dite (decLt (firstNamed names name n) y)
-      (λ (k : firstNamed names name n < y). absurd (none _ k (first-has n (omega arith))))
-      (λ (k : firstNamed names name n < y → ⊥).
-      dite (decLt y (firstNamed names name n))
-      (λ (h : y < firstNamed names name n). absurd (first-least n y h e))
-      (λ (h : y < firstNamed names name n → ⊥). omega arith))
+      let before : firstNamed names name n < y → ⊥ = λ k. none _ k (first-has n (lt-trans k l)) in
+      let behind : y < firstNamed names name n → ⊥ = λ k. first-least n y k e in
+      omega arith
 
   -- where no row below n has it, there is none
   pub first-none : (n : ℕ) → ((z : ℕ) → z < n → names z ≡ name → ⊥) → firstNamed names name n ≡ n
@@ -121,19 +118,22 @@ alone-first names x alone =
     (nameless-first names x)
     (λ (h : names x ≡ 0 → ⊥). first-of-found names x h x (le-refl x) refl (λ z l e. h (alone z l e)))
 
+-- rows of one name have one first
+pub first-of-shared : (names : ℕ → ℕ) (x y : ℕ) → (names x ≡ 0 → ⊥) → names x ≡ names y → firstOf names x ≡ firstOf names y
+first-of-shared names x y named same =
+    let before : firstOf names x < firstOf names y → ⊥ = λ l. first-of-least names y (λ e. named (same ∙ e)) _ l (first-of-name names x ∙ same) in
+    let behind : firstOf names y < firstOf names x → ⊥ = λ l. first-of-least names x named _ l (first-of-name names y ∙ sym same) in
+    omega arith
+
 -- names that differ in row r alone have one first for row x, where neither first is r
 pub first-of-alike : (names names′ : ℕ → ℕ) (r x : ℕ) → ((y : ℕ) → (y ≡ r → ⊥) → names y ≡ names′ y) → (x ≡ r → ⊥) →
     (firstOf names x ≡ r → ⊥) → (firstOf names′ x ≡ r → ⊥) → firstOf names x ≡ firstOf names′ x
 first-of-alike names names′ r x alike other not-here not-there =
     dite (ℕ-discrete (names x) 0)
     (λ (e : names x ≡ 0). nameless-first names x e ∙ sym (nameless-first names′ x (sym (alike x other) ∙ e)))
-    (λ (h : names x ≡ 0 → ⊥).
-    let h′ : names′ x ≡ 0 → ⊥ = λ e. h (alike x other ∙ e) in
-    let here : names (firstOf names′ x) ≡ names x = alike _ not-there ∙ first-of-name names′ x ∙ sym (alike x other) in
-    let there : names′ (firstOf names x) ≡ names′ x = sym (alike _ not-here) ∙ first-of-name names x ∙ alike x other in
-    dite (decLt (firstOf names x) (firstOf names′ x))
-    (λ (l : firstOf names x < firstOf names′ x). absurd (first-of-least names′ x h′ _ l there))
-    (λ (l : firstOf names x < firstOf names′ x → ⊥).
-    dite (decLt (firstOf names′ x) (firstOf names x))
-    (λ (k : firstOf names′ x < firstOf names x). absurd (first-of-least names x h _ k here))
-    (λ (k : firstOf names′ x < firstOf names x → ⊥). omega arith)))
+    (λ (named : names x ≡ 0 → ⊥).
+    let before : firstOf names x < firstOf names′ x → ⊥ =
+    λ l. first-of-least names′ x (λ e. named (alike x other ∙ e)) _ l (sym (alike _ not-here) ∙ first-of-name names x ∙ alike x other) in
+    let behind : firstOf names′ x < firstOf names x → ⊥ =
+    λ l. first-of-least names x named _ l (alike _ not-there ∙ first-of-name names′ x ∙ sym (alike x other)) in
+    omega arith)

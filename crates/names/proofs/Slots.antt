@@ -103,12 +103,9 @@ kept-fits t slots r s can = record { fits = omega (arith, can .few, can .valid .
 
 -- by what the slot has
 module _ (t : List ℕ) (name r kept : ℕ) (slot : Slotted t name r kept) where
-  own-named : nameAt t r ≡ 0 → ⊥
-  own-named = slot .named
-
   -- no row before has a name of the slot
   pub slot-free : kept ≡ 0 → r ≡ firstOf (nameAt t) r
-  slot-free e = sym (first-of-found (nameAt t) r own-named r (omega arith) refl (λ z l d. slot .none e z l (d ∙ sym (slot .states))))
+  slot-free e = sym (first-of-found (nameAt t) r (slot .named) r (omega arith) refl (λ z l d. slot .none e z l (d ∙ sym (slot .states))))
 
   -- a row before, the first of its name, has the slot
   module _ (filled : kept ≡ 0 → ⊥) where
@@ -119,11 +116,11 @@ module _ (t : List ℕ) (name r kept : ℕ) (slot : Slotted t name r kept) where
     slot-found read e =
         let same : nameAt t (kept - 1) ≡ nameAt t r = sym (read .is) ∙ e ∙ slot .states in
         let own : firstOf (nameAt t) (kept - 1) ≡ kept - 1 = slot .first (kept - 1) (let filled-by : kept ≡ suc (kept - 1) = omega arith in filled-by) in
-        sym (first-of-found (nameAt t) r own-named (kept - 1) (let l : kept ≤ r = slot .low in omega arith) same
-        (λ z below d. first-of-least (nameAt t) (kept - 1) (λ none. own-named (sym same ∙ none)) z (rw own below) (d ∙ sym same)))
+        sym (first-of-found (nameAt t) r (slot .named) (kept - 1) (let l : kept ≤ r = slot .low in omega arith) same
+        (λ z below d. first-of-least (nameAt t) (kept - 1) (λ none. slot .named (sym same ∙ none)) z (rw own below) (d ∙ sym same)))
 
   pub searched-found : {first : ℕ} → first ≡ firstNamed (nameAt t) name r → first ≡ firstOf (nameAt t) r
-  searched-found e = e ∙ ap (λ (k : ℕ). firstNamed (nameAt t) k r) (slot .states) ∙ sym (named-first (nameAt t) r own-named)
+  searched-found e = e ∙ ap (λ (k : ℕ). firstNamed (nameAt t) k r) (slot .states) ∙ sym (named-first (nameAt t) r (slot .named))
 
 -- the number of row r, or of one above, and one more
 pub low-first : (t : List ℕ) (r : ℕ) {first : ℕ} → first ≡ firstOf (nameAt t) r → first ≤ r

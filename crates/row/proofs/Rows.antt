@@ -145,19 +145,6 @@ module _ (t : List ℕ) (r : ℕ) (x : Row) (source : ℕ) where
   unfolding putRow
   put-other-mark s other = mark-stays t r (bytesOf x source) (length-bytesOf x source) s other
 
-  -- every byte outside the row stays, and those of the row are the row's
-  pub put-below : (j : ℕ) → j < place r → byte (putRow t r x source) j ≡ byte t j
-  unfolding putRow
-  put-below j h = byte-stays-below t r (bytesOf x source) (length-bytesOf x source) j h
-
-  pub put-above : (j : ℕ) → place r + LENGTH ≤ j → byte (putRow t r x source) j ≡ byte t j
-  unfolding putRow
-  put-above j h = byte-stays-above t r (bytesOf x source) (length-bytesOf x source) j h
-
-  pub put-inside : place r + LENGTH ≤ length t → (j : ℕ) → j < LENGTH → byte (putRow t r x source) (place r + j) ≡ byte (bytesOf x source) j
-  unfolding putRow
-  put-inside room j h = sets-inside t (place r) (bytesOf x source) j (rw (length-bytesOf x source) room) (rw (length-bytesOf x source) h)
-
   pub put-take : (n : ℕ) → n ≤ place r → take n (putRow t r x source) ≡ take n t
   unfolding putRow
   put-take n h = take-stays t r (bytesOf x source) (length-bytesOf x source) n h

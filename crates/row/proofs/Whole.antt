@@ -14,19 +14,7 @@ use Rattle.basis.proofs.Pick.{or-left, or-right}
 use Rattle.bytes.specs.Numbers.{byte, number, bytes, AllBytes}
 use Rattle.bytes.proofs.Numbers.{number-below, bytes-number}
 use Rattle.row.specs.Names.{LENGTH, MARK-0, MARK-1, KIND, ZERO, A, B, C, K, H, SOURCE, place}
-use Rattle.row.specs.Bytes.{rowFrom, rowAt, sourceAt, markWrong, headOf, bytesOf, Small}
-
-pub row-small : (t : List ℕ) (r : ℕ) → AllBytes t → Small (rowAt t r)
-unfolding rowAt rowFrom
-row-small t r all =
-    record {
-      kind = all (place r + KIND);
-      a = number-below 2 t (place r + A);
-      b = number-below 2 t (place r + B);
-      c = number-below 2 t (place r + C);
-      k = number-below 8 t (place r + K);
-      h = number-below 8 t (place r + H);
-    }
+use Rattle.row.specs.Bytes.{rowFrom, rowAt, sourceAt, markWrong, headOf, bytesOf}
 
 pub mark-right : (t : List ℕ) (i : ℕ) → markWrong t i ≡ false → (byte t i ≡ MARK-0) × (byte t (i + 1) ≡ MARK-1) × (byte t (i + ZERO) ≡ 0)
 unfolding markWrong

@@ -1,15 +1,13 @@
 -- The table as it is read: a later VAR of a name refers to the first, which stands before it and is a VAR; every other row is as it stands.
 use Prim.Native.Nat.{ℕ, _≤_, _<_}
-use native.Mathlib.Decide.{decLt}
 use native.Mathlib.Omega.{arith}
 use mathlib.Core.Path.{_≡_, refl, sym, ap, _∙_, subst}
 use mathlib.Core.Bool.{Bool, true, false, cond}
-use mathlib.Core.Logic.{dite}
 use lib.Dec.{ltb}
 use borrow.Author.Tests.{ltb-true, ltb-false, lt-ltb, le-ltb}
 use Rattle.basis.proofs.Pick.{test-case, pick-case, pick-true, pick-false}
 use Rattle.names.specs.First.{firstOf}
-use Rattle.names.proofs.First.{first-of-low, first-of-name, first-of-first, first-of-least, first-of-alike, later-named}
+use Rattle.names.proofs.First.{first-of-low, first-of-name, first-of-first, first-of-least, first-of-shared, first-of-alike, later-named}
 use Rattle.term.specs.Term.{Term, const, var, shift, sum, diff, neg, read, fresh, write, statedBy, isArray, anyNamed}
 use Rattle.term.specs.Seen.{firstRow, isLater, byName, seen}
 use Rattle.term.specs.WellFormed.{Fits, Names, Below, WellFormed}
@@ -97,13 +95,7 @@ module _ (t : ℕ → Term) where
   -- rows of one name have one first
   pub first-row-shared : (x y : ℕ) → (statedBy (t x) ≡ 0 → ⊥) → statedBy (t x) ≡ statedBy (t y) → firstRow t x ≡ firstRow t y
   unfolding firstRow
-  first-row-shared x y named same =
-      dite (decLt (firstOf names x) (firstOf names y))
-      (λ (l : firstOf names x < firstOf names y). absurd (first-of-least names y (λ e. named (same ∙ e)) _ l (first-of-name names x ∙ same)))
-      (λ (l : firstOf names x < firstOf names y → ⊥).
-      dite (decLt (firstOf names y) (firstOf names x))
-      (λ (k : firstOf names y < firstOf names x). absurd (first-of-least names x named _ k (first-of-name names y ∙ sym same)))
-      (λ (k : firstOf names y < firstOf names x → ⊥). omega arith))
+  first-row-shared = first-of-shared names
 
   -- the first stands as it is
   pub seen-first : (x : ℕ) → seen t (firstRow t x) ≡ t (firstRow t x)
@@ -116,10 +108,13 @@ module _ (t : ℕ → Term) where
       (λ (e : isLater t x ≡ true). sym (stated-word (t x) (later-states x e)))
       (λ (e : isLater t x ≡ false). refl)
 
-  pub seen-below : NamesBelow t → NamesBelow (seen t)
+  pub seen-row-below : (x : ℕ) → Names (λ s y. y < x) (t x) → Names (λ s y. y < x) (seen t x)
   unfolding seen byName
-  seen-below low x =
-      pick-case (Names (λ s y. y < x)) (isLater t x) (λ (e : isLater t x ≡ true). later-below x e) (λ (e : isLater t x ≡ false). low x)
+  seen-row-below x low =
+      pick-case (Names (λ s y. y < x)) (isLater t x) (λ (e : isLater t x ≡ true). later-below x e) (λ (e : isLater t x ≡ false). low)
+
+  pub seen-below : NamesBelow t → NamesBelow (seen t)
+  seen-below low x = seen-row-below x (low x)
 
   pub seen-later : (x : ℕ) → isLater t x ≡ true → seen t x ≡ shift (firstRow t x) 0
   unfolding seen

@@ -7,7 +7,7 @@ use mathlib.Core.Logic.{_⊎_, inl, inr, ⊎-elim, dite}
 use lib.Dec.{eqb}
 use borrow.Author.Tests.{eqb-true, eq-eqb}
 use Rattle.basis.specs.Build.{grow, grown}
-use Rattle.basis.proofs.Pick.{test-case, pick-case, or-case, or-left, or-right, or-false, or-true-left, or-true-right}
+use Rattle.basis.proofs.Pick.{test-case, or-case, or-left, or-right, or-false, or-true-left, or-true-right}
 use Rattle.basis.proofs.Builds.{grow-below, grown-is, from-below}
 use Rattle.term.specs.Term.{Term, const, var, shift, sum, diff, neg, read, fresh, write, anyNamed}
 use Rattle.term.specs.WellFormed.{Names}
@@ -15,7 +15,7 @@ use Rattle.term.specs.Seen.{firstRow, isLater, byName, seen}
 use Rattle.term.specs.Result.{touchedBy, touchedIn}
 use Rattle.term.specs.Leads.{Refers, LeadsBack, directly, through}
 use Rattle.term.proofs.Names.{NamesBelow, names-widen, names-both, none-named, any-named-local}
-use Rattle.term.proofs.Seen.{later-below, own-first, seen-later, by-name-same, first-row-alike}
+use Rattle.term.proofs.Seen.{seen-row-below, own-first, seen-later, by-name-same, first-row-alike}
 
 -- each row named is one that the term refers to
 pub names-referred : (t : Term) → Names (λ s y. Refers t y) t
@@ -129,9 +129,7 @@ module _ (t : ℕ → Term) (r : ℕ) (low : BelowBut r t) where
 -- names followed
 module _ (t : ℕ → Term) (r : ℕ) (low : BelowBut r t) where
   pub seen-below-but : BelowBut r (seen t)
-  unfolding seen byName
-  seen-below-but x other =
-      pick-case (Names (λ s y. y < x)) (isLater t x) (λ (e : isLater t x ≡ true). later-below t x e) (λ (e : isLater t x ≡ false). low x other)
+  seen-below-but x other = seen-row-below t x (low x other)
 
   -- a row whose first is r
   pub first-touched : (x : ℕ) → firstRow t x ≡ r → touchedBy (seen t) r x ≡ true
@@ -149,20 +147,26 @@ module _ (before after : ℕ → Term) (r : ℕ) (alike : (x : ℕ) → (x ≡ r
   pub below-after : BelowBut r after
   below-after x other = low x
 
+  read-before : BelowBut r (seen before)
+  read-before = seen-below-but before r below-before
+
+  read-after : BelowBut r (seen after)
+  read-after = seen-below-but after r below-after
+
   pub touched-in-is : (x : ℕ) → touchedIn before after r x ≡ true → (x ≡ r) ⊎ LeadsBack (seen before) r x ⊎ LeadsBack (seen after) r x
   unfolding touchedIn
   touched-in-is x e =
       or-case (touchedBy (seen before) r x) (touchedBy (seen after) r x) e
       (λ (q : touchedBy (seen before) r x ≡ true).
-      ⊎-elim inl (λ (back : LeadsBack (seen before) r x). inr (inl back)) (touched-is (seen before) r (seen-below-but before r below-before) x q))
+      ⊎-elim inl (λ (back : LeadsBack (seen before) r x). inr (inl back)) (touched-is (seen before) r read-before x q))
       (λ (q : touchedBy (seen after) r x ≡ true).
-      ⊎-elim inl (λ (back : LeadsBack (seen after) r x). inr (inr back)) (touched-is (seen after) r (seen-below-but after r below-after) x q))
+      ⊎-elim inl (λ (back : LeadsBack (seen after) r x). inr (inr back)) (touched-is (seen after) r read-after x q))
 
   pub is-touched-in : (x : ℕ) → (x ≡ r) ⊎ LeadsBack (seen before) r x ⊎ LeadsBack (seen after) r x → touchedIn before after r x ≡ true
   unfolding touchedIn
-  is-touched-in x (inl e) = or-true-left (touchedBy (seen before) r x) _ (is-touched (seen before) r (seen-below-but before r below-before) x (inl e))
-  is-touched-in x (inr (inl back)) = or-true-left (touchedBy (seen before) r x) _ (is-touched (seen before) r (seen-below-but before r below-before) x (inr back))
-  is-touched-in x (inr (inr back)) = or-true-right (touchedBy (seen before) r x) _ (is-touched (seen after) r (seen-below-but after r below-after) x (inr back))
+  is-touched-in x (inl e) = or-true-left (touchedBy (seen before) r x) _ (is-touched (seen before) r read-before x (inl e))
+  is-touched-in x (inr (inl back)) = or-true-left (touchedBy (seen before) r x) _ (is-touched (seen before) r read-before x (inr back))
+  is-touched-in x (inr (inr back)) = or-true-right (touchedBy (seen before) r x) _ (is-touched (seen after) r read-after x (inr back))
 
   -- a row that is not touched
   module _ (x : ℕ) (clear : touchedIn before after r x ≡ false) where
@@ -189,10 +193,10 @@ module _ (before after : ℕ → Term) (r : ℕ) (alike : (x : ℕ) → (x ≡ r
     untouched-seen = by-name-same before after x untouched-first (before x) ∙ ap (byName after x) (alike x untouched-other)
 
     none-before : anyNamed (touchedBy (seen before) r) (seen before x) ≡ false
-    none-before = or-right (eqb x r) _ (sym (touched-eq (seen before) r (seen-below-but before r below-before) x) ∙ clear-before)
+    none-before = or-right (eqb x r) _ (sym (touched-eq (seen before) r read-before x) ∙ clear-before)
 
     none-after : anyNamed (touchedBy (seen after) r) (seen after x) ≡ false
-    none-after = or-right (eqb x r) _ (sym (touched-eq (seen after) r (seen-below-but after r below-after) x) ∙ clear-after)
+    none-after = or-right (eqb x r) _ (sym (touched-eq (seen after) r read-after x) ∙ clear-after)
 
     -- and names rows that are not touched
     pub untouched-names : Names (λ s y. touchedIn before after r y ≡ false) (seen before x)
