@@ -11,6 +11,8 @@ enum { HEADER = 6, ROW = 30, SOURCE = 26, MOST_ROWS = 1024 };
 
 /* A base is kept as the row that writes it: CONST for nothing, SHIFT for one. */
 struct row { uint8_t kind; uint16_t a, b, c; uint64_t k, h; };
+
+/* From low up to high; where high is below low, over the largest word: two pieces. */
 struct range { uint64_t low, high; };
 
 /* What a comparison asks of a row: its base as one number, its offset, its range. */
@@ -18,6 +20,7 @@ struct known { uint64_t base, offset; struct range range; };
 
 struct state {
     uint64_t largest;
+    unsigned most_pieces; /* of a range: 2, or 1 as the rule was before */
     struct row rows[MOST_ROWS];
     struct known known[MOST_ROWS];
 };
@@ -156,10 +159,17 @@ static uint16_t plain_name(const struct state *s, uint16_t i) {
 
 enum relation { NOT_KNOWN, SAME, APART };
 
+static int apart(struct range x, struct range y) {
+    int x_two = x.high < x.low, y_two = y.high < y.low;
+    int below = x.high < y.low, above = y.high < x.low;
+    if (!x_two && !y_two) return below || above;
+    return !(x_two && y_two) && below && above;
+}
+
 static enum relation relation(const struct state *s, uint16_t i, uint16_t j) {
     const struct known *x = &s->known[i], *y = &s->known[j];
     if (x->base == y->base) return x->offset == y->offset ? SAME : APART;
-    return x->range.high < y->range.low || y->range.high < x->range.low ? APART : NOT_KNOWN;
+    return apart(x->range, y->range) ? APART : NOT_KNOWN;
 }
 
 static struct row read_row(const struct state *s, uint16_t array, uint16_t index) {
@@ -180,18 +190,19 @@ static struct row write_row(const struct state *s, struct row r) {
     return r;
 }
 
+static uint64_t size(const struct state *s, struct range x) { return (x.high - x.low) & s->largest; }
+
+static struct range stretch(const struct state *s, int all_round, uint64_t low, uint64_t high) {
+    struct range full = { 0, s->largest }, r = { low & s->largest, high & s->largest };
+    return all_round || (s->most_pieces == 1 && r.high < r.low) ? full : r;
+}
+
 static struct range add(const struct state *s, struct range x, struct range y) {
-    /* With largest = 2^w - 1 a whole sum exceeds it exactly when one part exceeds the rest. */
-    int high_wraps = x.high > s->largest - y.high, low_wraps = x.low > s->largest - y.low;
-    struct range sum = { (x.low + y.low) & s->largest, (x.high + y.high) & s->largest };
-    struct range full = { 0, s->largest };
-    return high_wraps == low_wraps ? sum : full;
+    return stretch(s, size(s, x) >= s->largest - size(s, y), x.low + y.low, x.high + y.high);
 }
 
 static struct range negated(const struct state *s, struct range x) {
-    struct range full = { 0, s->largest };
-    struct range turned = { (0 - x.high) & s->largest, (0 - x.low) & s->largest };
-    return x.high == 0 ? x : x.low > 0 ? turned : full;
+    return stretch(s, size(s, x) == s->largest, 0 - x.high, 0 - x.low);
 }
 
 static struct range range_of(const struct state *s, struct row r) {
@@ -232,7 +243,7 @@ static struct plain_answer refused(uint64_t number, uint64_t row) {
 }
 
 struct plain_answer plain_run(const uint8_t *table, size_t table_len,
-                              uint8_t *result, size_t result_len) {
+                              uint8_t *result, size_t result_len, unsigned most_pieces) {
     struct state s;
     struct names names;
     if (table_len < HEADER) return refused(1, 0);
@@ -243,6 +254,7 @@ struct plain_answer plain_run(const uint8_t *table, size_t table_len,
     if (table_len != HEADER + (size_t)ROW * n) return refused(5, 0);
     if (result_len < table_len) return refused(6, 0);
     s.largest = UINT64_MAX >> (64 - table[2]);
+    s.most_pieces = most_pieces;
     memset(names.heads, 0, sizeof names.heads);
     for (unsigned i = 0; i < n; i++) {
         const uint8_t *p = table + HEADER + ROW * i;

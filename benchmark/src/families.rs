@@ -2,6 +2,7 @@
 
 use second::bytes::{row_bytes, table_bytes, ROW};
 use second::{Row, Width};
+use tables::machine::Stack;
 use tables::random::Random;
 use tables::sources::sources;
 use tables::{chain, machine, wellformed};
@@ -16,35 +17,39 @@ pub const NAMES: [usize; 4] = [0, 16, 256, 1000];
 pub enum Family {
     Stack,
     StackAndHeap,
+    StackAcrossZero,
     Chain,
 }
 
 impl Family {
-    pub const ALL: [Family; 3] = [Family::Stack, Family::StackAndHeap, Family::Chain];
+    pub const ALL: [Family; 4] =
+        [Family::Stack, Family::StackAndHeap, Family::StackAcrossZero, Family::Chain];
 
     pub fn name(self) -> &'static str {
         match self {
             Family::Stack => "stack: calls, returns, locals",
             Family::StackAndHeap => "stack and heap, some pointers read from memory",
+            Family::StackAcrossZero => "stack across zero, and heap in the gap of its range",
             Family::Chain => "one long chain of stores at one base, reads past them",
         }
     }
 
     pub fn rows(self, width: Width, count: usize) -> Vec<Row> {
         let mut random = Random::new(7);
-        let mut machine = |heap, pointers_one_in| {
+        let mut machine = |stack, heap, pointers_one_in| {
             let habits = machine::Habits {
                 heap,
                 pointers_one_in,
                 re_entries_one_in: 0,
                 names: [0, 0],
-                careless: false,
+                stack,
             };
             machine::rows(&mut random, width, count, habits)
         };
         match self {
-            Family::Stack => machine(false, 0),
-            Family::StackAndHeap => machine(true, 40),
+            Family::Stack => machine(Stack::High, false, 0),
+            Family::StackAndHeap => machine(Stack::High, true, 40),
+            Family::StackAcrossZero => machine(Stack::AtZero, true, 0),
             Family::Chain => chain::rows(width, count),
         }
     }

@@ -122,6 +122,20 @@ fn line(name: &str, rows: usize, figures: &[f64], before: Option<f64>) {
     }
 }
 
+/// What ranges in two pieces are for: reads that go past the stores of a stack across zero.
+fn removed_reads() {
+    println!("\nreads removed, {}", Family::StackAcrossZero.name());
+    println!("  {:>5} {:>6} {:>10} {:>10}", "rows", "reads", "one piece", "two pieces");
+    for size in SIZES {
+        let subject = Subject::new(Family::StackAcrossZero, size);
+        let mut result = vec![0; subject.table.len()];
+        let before = plain::run_in_one_piece(&subject.table, &mut result).removed;
+        let removed = numbers::run(&subject.table, &mut result).removed;
+        let reads = subject.rows.iter().filter(|row| row.is_read()).count();
+        println!("  {size:>5} {reads:>6} {before:>10} {removed:>10}");
+    }
+}
+
 /// Runs of tables that differ in names alone, all taking turns.
 fn names(tables: &[Subject]) {
     head("a run of a thousand variables that have so many names", "names", "unnamed");
@@ -165,6 +179,7 @@ fn main() {
         }
     }
     names(&NAMES.map(Subject::named));
+    removed_reads();
     println!();
     depth::print(&subjects);
 }

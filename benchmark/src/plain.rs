@@ -1,11 +1,24 @@
 //! The plain C program.
 
+use std::ffi::c_uint;
 use stezkoun::numbers::Answer;
 
 extern "C" {
-    fn plain_run(table: *const u8, table_len: usize, result: *mut u8, result_len: usize) -> Answer;
+    fn plain_run(
+        table: *const u8, table_len: usize, result: *mut u8, result_len: usize, most_pieces: c_uint,
+    ) -> Answer;
 }
 
 pub fn run(table: &[u8], result: &mut [u8]) -> Answer {
-    unsafe { plain_run(table.as_ptr(), table.len(), result.as_mut_ptr(), result.len()) }
+    run_in(2, table, result)
+}
+
+/// By the rule of ranges as it was before: each is one piece, and one that straddles is full.
+pub fn run_in_one_piece(table: &[u8], result: &mut [u8]) -> Answer {
+    run_in(1, table, result)
+}
+
+fn run_in(most_pieces: c_uint, table: &[u8], result: &mut [u8]) -> Answer {
+    let (table_len, result_len) = (table.len(), result.len());
+    unsafe { plain_run(table.as_ptr(), table_len, result.as_mut_ptr(), result_len, most_pieces) }
 }

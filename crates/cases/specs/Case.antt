@@ -5,7 +5,8 @@ use mathlib.Core.List.{List, [], _∷_, _++_}
 use lib.ListN.{length, replicate}
 use lib.Dec.{eqb}
 use Rattle.range.specs.declared.Range.{Range}
-use Rattle.range.specs.Range.{negation}
+use Rattle.pieces.specs.Pieces.{Piece, union, fewest}
+use Rattle.range.specs.Range.{pieces, negation}
 use Rattle.range.specs.Range as range
 use Rattle.bytes.specs.Numbers.{bytes}
 use Rattle.row.specs.Bytes.{bytesOf}
@@ -16,10 +17,12 @@ use Rattle.simplify.specs.Run.{runAnswer, runResult}
 use Rattle.simplify.specs.Edit.{editAnswer, editTable, editKept}
 
 pub data Case : Type 0 where
-  -- at a width, a range plus a range is a range
-  plus : ℕ → Range → Range → Range → Case
-  -- at a width, a range negated is a range
-  negated : ℕ → Range → Range → Case
+  -- at a width, the pieces of a range plus a range
+  plus : ℕ → Range → Range → List Piece → Case
+  -- at a width, the pieces of a range negated
+  negated : ℕ → Range → List Piece → Case
+  -- the union of pieces, with gaps filled until two remain
+  gathered : List Piece → List Piece → Case
   -- at a width, a table's fresh result; removed, touched
   runs : ℕ → List Term → List Term → ℕ → ℕ → Case
   -- at a width, a table, a row number and its replacement: the kept result after the edit; removed, touched
@@ -27,8 +30,11 @@ pub data Case : Type 0 where
   -- the same, where the edit is refused: number, row
   refuses : ℕ → List Term → ℕ → Term → ℕ → ℕ → Case
 
-sameRange : Range → Range → Bool
-sameRange a b = eqb (a .lo) (b .lo) && eqb (a .hi) (b .hi)
+samePieces : List Piece → List Piece → Bool
+samePieces [] [] = true
+samePieces [] (q ∷ qs) = false
+samePieces (p ∷ ps) [] = false
+samePieces (p ∷ ps) (q ∷ qs) = eqb (p .lo) (q .lo) && eqb (p .hi) (q .hi) && samePieces ps qs
 
 sameBytes : List ℕ → List ℕ → Bool
 sameBytes [] [] = true
@@ -80,9 +86,10 @@ refusesBy t r x number row =
     answers (editAnswer t kept r x) number row 0 0 && sameBytes (editTable t kept r x) t && sameBytes (editKept t kept r x) kept
 
 unfoldable pub holds : Case → Bool
-unfolding sameRange sameBytes answers recorded replaced patched rowsOf tableOf room runsTo editsTo refusesBy
-holds (plus w a b c) = sameRange (range.sum (2 ^ w) a b) c
-holds (negated w a b) = sameRange (negation (2 ^ w) a) b
+unfolding samePieces sameBytes answers recorded replaced patched rowsOf tableOf room runsTo editsTo refusesBy
+holds (plus w a b ps) = samePieces (pieces (2 ^ w) (range.sum (2 ^ w) a b)) ps
+holds (negated w a ps) = samePieces (pieces (2 ^ w) (negation (2 ^ w) a)) ps
+holds (gathered ps qs) = samePieces (fewest (union ps)) qs
 holds (runs w t f removed touched) = runsTo (tableOf recorded w t) (tableOf recorded w f) removed touched
 holds (edits w t r x f removed touched) = editsTo (tableOf recorded w t) r (bytesOf (rowOf x) replaced) (tableOf (patched r) w f) removed touched
 holds (refuses w t r x number row) = refusesBy (tableOf recorded w t) r (bytesOf (rowOf x) replaced) number row

@@ -1,9 +1,10 @@
--- P1 to P10, and registers seen twice (document 02, A2).
+-- P1 to P10, with ranges in two pieces (document 02, A5), and registers seen twice (A2).
 use Prim.Native.Nat.{_-_, _^_}
 use mathlib.Core.List.{List, [], _∷_}
-use Rattle.range.specs.Range.{span}
+use Rattle.pieces.specs.Pieces.{piece}
+use Rattle.range.specs.Range.{span, point}
 use Rattle.term.specs.Term.{Term, const, var, shift, diff, read, fresh, write}
-use Rattle.cases.specs.Case.{Case, plus, negated, runs, edits, refuses}
+use Rattle.cases.specs.Case.{Case, plus, negated, gathered, runs, edits, refuses}
 
 -- the table of P1
 unfoldable pub p1 : List Term
@@ -23,16 +24,23 @@ cases =
     refuses 8 p1 1 (const 0) 14 4 ∷
     -- P4
     runs 8 [] [] 0 0 ∷
+    -- P2: row 2
+    plus 8 (span 0 250) (point 248) (piece 0 242 ∷ piece 248 255 ∷ []) ∷
     -- P5
-    plus 8 (span 0 254) (span 1 1) (span 1 255) ∷
-    plus 8 (span 0 255) (span 1 1) (span 0 255) ∷
+    plus 8 (span 0 254) (point 1) (piece 1 255 ∷ []) ∷
+    plus 8 (span 0 255) (point 1) (piece 0 255 ∷ []) ∷
     -- P6
-    plus 8 (span 255 255) (span 1 1) (span 0 0) ∷
-    plus 8 (span 254 255) (span 1 1) (span 0 255) ∷
+    plus 8 (span 255 255) (point 1) (piece 0 0 ∷ []) ∷
+    plus 8 (span 254 255) (point 1) (piece 0 0 ∷ piece 255 255 ∷ []) ∷
     -- P7
-    negated 8 (span 0 0) (span 0 0) ∷
-    negated 8 (span 1 5) (span 251 255) ∷
-    negated 8 (span 0 5) (span 0 255) ∷
+    negated 8 (span 0 0) (piece 0 0 ∷ []) ∷
+    negated 8 (span 1 5) (piece 251 255 ∷ []) ∷
+    negated 8 (span 0 5) (piece 0 0 ∷ piece 251 255 ∷ []) ∷
+    -- A5: pieces that touch are one; the smallest gap is filled, and of two equal ones the lower
+    negated 8 (span 0 255) (piece 0 255 ∷ []) ∷
+    gathered (piece 7 9 ∷ piece 0 3 ∷ piece 4 5 ∷ []) (piece 0 5 ∷ piece 7 9 ∷ []) ∷
+    gathered (piece 0 0 ∷ piece 7 7 ∷ piece 5 5 ∷ []) (piece 0 0 ∷ piece 5 7 ∷ []) ∷
+    gathered (piece 0 1 ∷ piece 4 5 ∷ piece 8 9 ∷ []) (piece 0 5 ∷ piece 8 9 ∷ []) ∷
     -- P8: (x + 5) - (x + 3), and reversed
     runs 8
     (var 0 0 255 ∷ shift 0 5 ∷ shift 0 3 ∷ diff 1 2 0 ∷ diff 2 1 0 ∷ [])
@@ -48,6 +56,11 @@ cases =
     (fresh ∷ var 0 0 255 ∷ const 1 ∷ const 2 ∷ write 0 1 2 ∷ write 4 1 3 ∷ [])
     (fresh ∷ var 0 0 255 ∷ const 1 ∷ const 2 ∷ write 0 1 2 ∷ write 0 1 3 ∷ [])
     0 6 ∷
+    -- A5: stored through a pointer that crosses zero, read in the gap and at the pointer's lower piece
+    runs 8
+    (var 0 0 250 ∷ fresh ∷ shift 0 248 ∷ const 245 ∷ const 9 ∷ write 1 2 3 ∷ read 5 3 ∷ read 5 4 ∷ [])
+    (var 0 0 250 ∷ fresh ∷ shift 0 248 ∷ const 245 ∷ const 9 ∷ write 1 2 3 ∷ read 1 3 ∷ read 5 4 ∷ [])
+    0 8 ∷
     -- A2: a register minus itself
     runs 8
     (var 3 0 255 ∷ var 3 0 255 ∷ diff 1 0 0 ∷ [])

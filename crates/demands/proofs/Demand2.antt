@@ -8,7 +8,7 @@ use mathlib.Core.Bool.{true}
 use mathlib.Core.List.{List}
 use lib.ListN.{length, take}
 use Rattle.basis.proofs.Pick.{pick-true}
-use Rattle.range.specs.Range.{Within}
+use Rattle.range.specs.Range.{Within, Proper}
 use Rattle.table.specs.Refusals.{width}
 use Rattle.table.specs.Accepted.{Accepted}
 use Rattle.table.proofs.Accepts.{accepted-gives}
@@ -54,6 +54,11 @@ module _ (t buffer : List ℕ) (granted : isAccepted (runVerdict t buffer) ≡ t
   -- there is a permitted choice
   pub some-choice : Permitted (modulus t) (look t) (least (look t))
   some-choice = choice-exists (modulus t) (positive t) (look t) (formed t ok) (accepted-one t ok)
+
+  -- the range of every result row is one piece, or two in order that do not touch, of words
+  pub ranges-proper : (x : ℕ) → Proper (modulus t) (rangeOf (modulus t) (rowsIn t (runResult t buffer)) x)
+  unfolding freshRows
+  ranges-proper x = rw rows-left (rules.run-range-proper (modulus t) LIMIT (positive t) (look t) (formed t ok) (least (look t)) some-choice x)
 
   module _ (choice : Choice) (permitted : Permitted (modulus t) (look t) choice) where
     pub words-mean : (x : ℕ) → value (modulus t) choice (rowsIn t (runResult t buffer)) x ≡ value (modulus t) choice (look t) x

@@ -4,13 +4,14 @@ use Prim.Native.Nat.{ℕ, _+_, _*_, _≤_, _<_}
 use native.Mathlib.Nat.{zero-add}
 use native.Mathlib.Omega.{arith}
 use mathlib.Core.Path.{_≡_, refl, ap, sym, _∙_, subst}
-use mathlib.Core.Bool.{true, false≢true}
+use mathlib.Core.Bool.{true, false, false≢true}
 use mathlib.Core.List.{List, _++_}
 use lib.ListN.{length, take, drop}
 use lib.Seq.{sets, sets-eq, take-at, drop-at}
 use Rattle.basis.proofs.Pick.{pick-true, or-true-left}
 use Rattle.range.specs.declared.Range.{Range}
 use Rattle.row.specs.Bytes.{sourceAt}
+use Rattle.row.proofs.Whole.{source-small}
 use Rattle.table.specs.declared.Verdict.{Verdict}
 use Rattle.table.specs.Refusals.{rows, MOST}
 use Rattle.table.specs.Accepted.{Accepted}
@@ -42,7 +43,7 @@ use Rattle.simplify.specs.Answer.{modulus, LIMIT, answered}
 use Rattle.simplify.specs.Run.{runAnswer, runResult, freshRows}
 use Rattle.listing.specs.List.{list, listFor}
 use Rattle.explanation.specs.Why.{listOf, whyVerdict, isMeasured, whyAnswer, whyResult, whyList}
-use Rattle.listing.proofs.Short.{list-short}
+use Rattle.listing.proofs.Short.{list-short, each-numbered}
 use Rattle.demands.specs.Own.{rowsIn}
 use Rattle.demands.proofs.Demand2.{formed, positive, rows-left}
 use Rattle.demands.proofs.Downward.{EndsAtFresh, few-compared, none-spent}
@@ -137,11 +138,11 @@ module _ (t buffer : List ℕ) (x : ℕ) (space : List ℕ) (granted : isAccepte
 
   -- row x is READ m i
   module _ (m i : ℕ) (is : look t x ≡ read m i) where
-    pub text-is-walk : listOf t x ≡ list (freshRows t) (ranges t) (sourceAt t) x m i (walked t m i) (rowOf (freshRows t x))
+    pub text-is-walk : listOf t x ≡ list (modulus t) (freshRows t) (ranges t) (sourceAt t) x m i (walked t m i) (rowOf (freshRows t x))
     unfolding listOf listFor
-    text-is-walk = ap (listFor LIMIT (freshRows t) (ranges t) (sourceAt t) x (rowOf (freshRows t x))) is
+    text-is-walk = ap (listFor (modulus t) LIMIT (freshRows t) (ranges t) (sourceAt t) x (rowOf (freshRows t x))) is
 
-    pub list-is-walk : whyList t buffer x space ≡ sets space 0 (list (freshRows t) (ranges t) (sourceAt t) x m i (walked t m i) (rowOf (freshRows t x)))
+    pub list-is-walk : whyList t buffer x space ≡ sets space 0 (list (modulus t) (freshRows t) (ranges t) (sourceAt t) x m i (walked t m i) (rowOf (freshRows t x)))
     unfolding whyList
     list-is-walk = pick-true _ _ _ granted ∙ ap (sets space 0) text-is-walk
 
@@ -158,6 +159,9 @@ module _ (t buffer : List ℕ) (x : ℕ) (space : List ℕ) (granted : isAccepte
 
     array-named : Below (look t) x true m
     array-named = subst (Names (Below (look t) x)) is (formed t ok .names x) .0
+
+    index-named : Below (look t) x false i
+    index-named = subst (Names (Below (look t) x)) is (formed t ok .names x) .1
 
     array-walked : isArray (freshRows t m) ≡ true
     unfolding freshRows
@@ -200,7 +204,10 @@ module _ (t buffer : List ℕ) (x : ℕ) (space : List ℕ) (granted : isAccepte
     list-at-most =
         let few : rows t ≤ MOST = ok .head .few in
         rw text-is-walk
-        (rw (← as-many-as-compared) (list-short (freshRows t) (ranges t) (sourceAt t) x m i (walked t m i) (freshRows t x) (omega (arith, is-there))))
+        (rw (← as-many-as-compared)
+        (list-short (modulus t) (freshRows t) (ranges t) (sourceAt t) x m i (walked t m i) (freshRows t x) (omega (arith, is-there))
+        (each-numbered (modulus t) (freshRows t) (ranges t) (sourceAt t) i result-is-formed (source-small t) (omega (arith, index-named .below, is-there)) follows
+        (omega (arith, array-named .below, is-there)))))
 
     -- no more stores than rows stand before x
     pub compared-at-most : compared (walked t m i) ≤ x

@@ -91,6 +91,7 @@ module _ (t buffer : List ℕ) (x : ℕ) (can : Explainable t buffer x) where
     pub explain-lists : Listable t left x
     unfolding place
     explain-lists = record {
+      wide = ok .head .width-high;
       room = room-in t (can .row) (ok .head .size);
       reads = can .reads;
       names = formed-below (2 ^ width t) (look t) (accepted-formed t ok) x;
@@ -103,8 +104,8 @@ module _ (t buffer : List ℕ) (x : ℕ) (can : Explainable t buffer x) where
 
     -- the list over the bytes is that of the promise
     list-by : (u : Term) → Names (Below (look t) x) u
-        → listFor LIMIT (look left) (kept store) (sourceAt t) x (rowAt left x) u ≡
-        listFor LIMIT (freshRows t) (rangeOf (modulus t) (freshRows t)) (sourceAt t) x (rowOf (freshRows t x)) u
+        → listFor (modulus t) LIMIT (look left) (kept store) (sourceAt t) x (rowAt left x) u ≡
+        listFor (modulus t) LIMIT (freshRows t) (rangeOf (modulus t) (freshRows t)) (sourceAt t) x (rowOf (freshRows t x)) u
     unfolding listFor list
     list-by (const k) n = refl
     list-by (var name k h) n = refl
@@ -116,19 +117,19 @@ module _ (t buffer : List ℕ) (x : ℕ) (can : Explainable t buffer x) where
         let array : m < rows t = omega (arith, n .0 .below, can .row) in
         let index : i < rows t = omega (arith, n .1 .below, can .row) in
         ap₂ (λ (ws : List ℕ) (y : Row). readLine (sourceAt t x) x m i ++ ws ++ resultLine x y (sourceAt t x))
-        (sym (lines-local (rows t) (freshRows t) (look left) (rangeOf (modulus t) (freshRows t)) (kept store) (sourceAt t) (λ y l. formed .names y)
+        (sym (lines-local (modulus t) (rows t) (freshRows t) (look left) (rangeOf (modulus t) (freshRows t)) (kept store) (sourceAt t) (λ y l. formed .names y)
         (λ y l. sym (run .rows-are y l)) (λ y l word. sym (run .ranges-are y l (sym (fresh-sort y) ∙ word))) i index (fresh-sort i ∙ n .1 .sort) LIMIT m array))
         row-left
     list-by fresh n = refl
     list-by (write a b c) n = refl
 
-    list-is : listFor LIMIT (look left) (kept store) (sourceAt t) x (rowAt left x) (look t x) ≡ listOf t x
+    list-is : listFor (modulus t) LIMIT (look left) (kept store) (sourceAt t) x (rowAt left x) (look t x) ≡ listOf t x
     unfolding listOf
     list-is = list-by (look t x) (accepted-formed t ok .names x)
 
     -- measured, with the space lent and a byte to spare
     module _ {spare spare′ : List ℕ} {size : ℕ}
-        (measured : Put spare 0 (listFor LIMIT (look left) (kept store) (sourceAt t) x (rowAt left x) (look t x)) (most (LIMIT + 1)) spare′ size) where
+        (measured : Put spare 0 (listFor (modulus t) LIMIT (look left) (kept store) (sourceAt t) x (rowAt left x) (look t x)) (most (LIMIT + 1)) spare′ size) where
       size-is : size ≡ length (listOf t x)
       size-is = measured .next ∙ zero-add _ ∙ ap length list-is
 
@@ -147,7 +148,7 @@ module _ (t buffer : List ℕ) (x : ℕ) (can : Explainable t buffer x) where
             rw old (explained-short can space (rw (← size-is) h) (is ∙ ap (listing 22 0 0 0) size-is))
 
       pub explain-fits : {space listed : List ℕ} {n e : ℕ} → size ≤ length space
-          → Put space 0 (listFor LIMIT (look left) (kept store) (sourceAt t) x (rowAt left x) (look t x)) (most (LIMIT + 1)) listed e → Read (rows t) 65536 n
+          → Put space 0 (listFor (modulus t) LIMIT (look left) (kept store) (sourceAt t) x (rowAt left x) (look t x)) (most (LIMIT + 1)) listed e → Read (rows t) 65536 n
           → Explained t buffer x space (record { answer = record { refusal = 0; row = 0; removed = removed; touched = n }; length = size }) left listed
       explain-fits {space} {listed} {n} h put counted =
           rw (put .written, list-is, counted .is, run .counted, run .result, size-is) (explained-fits can space (rw (← size-is) h))

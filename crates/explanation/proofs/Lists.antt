@@ -1,25 +1,28 @@
 -- The list of one read: what its parts ask, and that its lines are the list.
-use Prim.Native.Nat.{ℕ, suc, _+_, _*_, _^_, _≤_}
+use Prim.Native.Nat.{ℕ, suc, _+_, _-_, _*_, _^_, _≤_}
 use native.Mathlib.Nat.{le-refl}
 use native.Mathlib.Omega.{arith}
 use mathlib.Core.Path.{_≡_, refl, sym, ap, _∙_}
 use mathlib.Core.Bool.{true, true≢false}
 use mathlib.Core.List.{List}
 use lib.ListN.{length}
+use lib.Pow.{pow-pos}
 use Rattle.range.specs.Store.{kept}
 use Rattle.bytes.specs.Numbers.{Read}
 use Rattle.row.specs.declared.Row.{Row}
-use Rattle.row.specs.Names.{LENGTH, place}
+use Rattle.row.specs.Names.{HEADER, LENGTH, place}
 use Rattle.row.specs.Bytes.{rowAt, sourceAt, Decoded}
+use Rattle.row.proofs.Places.{header-below}
+use Rattle.table.specs.Refusals.{width}
 use Rattle.walks.specs.declared.relation.Index.{Index}
 use Rattle.walks.specs.Ready.{NamesBelow, Reached, Standing, Sought}
 use Rattle.walks.proofs.Reach.{row-room, row-reached}
 use Rattle.walks.proofs.Terms.{term-case}
-use Rattle.simplify.specs.Answer.{LIMIT}
+use Rattle.simplify.specs.Answer.{LIMIT, modulus}
 use Rattle.term.specs.Term.{Term, read, termOf, isRead}
 use Rattle.term.specs.Bytes.{look}
 use Rattle.text.specs.Text.{Put}
-use Rattle.text.proofs.Puts.{put-then, put-length}
+use Rattle.text.proofs.Puts.{put-then}
 use Rattle.listing.specs.List.{readLine, resultLine, list, listFor, most}
 use Rattle.explanation.specs.Ready.{Telling, Listable}
 use Rattle.explanation.proofs.Steps.{lines}
@@ -32,6 +35,14 @@ read-row x =
     (λ e. absurd (true≢false (sym e))) (λ e. absurd (true≢false (sym e))) (λ e. absurd (true≢false (sym e))) (λ e. absurd (true≢false (sym e)))
     (λ e. absurd (true≢false (sym e))) (λ e. absurd (true≢false (sym e))) (λ e. absurd (true≢false (sym e))) (λ e. refl)
     (λ e. absurd (true≢false (sym e))) (λ k e. absurd (true≢false (sym e)))
+
+-- the modulus is one more than the largest word
+pub top-next : (T : List ℕ) {w top : ℕ} → Read (width T) 256 w → top ≡ 2 ^ w - 1 → top + 1 ≡ modulus T
+unfolding modulus
+top-next T {w} told e = rw (← told .is) (omega (arith, e, pow-pos w))
+
+pub list-header : (T R : List ℕ) (r : ℕ) → Listable T R r → HEADER ≤ length T
+list-header T R r given = omega (arith, header-below r, given .room)
 
 module _ (T R S l : List ℕ) (r : ℕ) (given : Listable T R r) {x : Row} (row : Decoded T r x) where
   term-is : look T r ≡ termOf x
@@ -64,16 +75,15 @@ module _ (T R S l : List ℕ) (r : ℕ) (given : Listable T R r) {x : Row} (row 
     list-walks sought = record {
       room = given .room;
       walking = record { rows = standing; index = sought; below = names .0 };
+      sought = names .1;
       early = omega (arith, head .few);
       few = le-refl LIMIT;
     }
 
-    module _ {m₂ : List ℕ} {end : ℕ} (walked : Put m₁ next (lines (look R) (kept S) (sourceAt T) (x .b) LIMIT (x .a)) (256 * LIMIT + 40) m₂ end) where
-      pub list-length : {m₃ some : List ℕ} {k e : ℕ} → Put m₂ end some k m₃ e → length m₃ ≡ length l
-      list-length p = put-length p ∙ put-length walked ∙ put-length head
-
+    module _ (top : ℕ) (top-is : top + 1 ≡ modulus T) {m₂ : List ℕ} {end : ℕ}
+        (walked : Put m₁ next (lines (top + 1) (look R) (kept S) (sourceAt T) (x .b) LIMIT (x .a)) (256 * LIMIT + 40) m₂ end) where
       pub list-done : {y : Row} {m₃ : List ℕ} {e : ℕ} → Decoded R r y → Put m₂ end (resultLine r y source) 175 m₃ e
-          → Put l 0 (listFor LIMIT (look R) (kept S) (sourceAt T) r (rowAt R r) (look T r)) (most (LIMIT + 1)) m₃ e
+          → Put l 0 (listFor (modulus T) LIMIT (look R) (kept S) (sourceAt T) r (rowAt R r) (look T r)) (most (LIMIT + 1)) m₃ e
       unfolding listFor list
       list-done y-is last =
-          rw (reads, ← y-is .is, ← recorded .is) (put-then {i = 256 * LIMIT + 156} (put-then head walked (le-refl _)) last (omega arith))
+          rw (reads, ← top-is, ← y-is .is, ← recorded .is) (put-then {i = 256 * LIMIT + 156} (put-then head walked (le-refl _)) last (omega arith))

@@ -18,7 +18,7 @@ use Rattle.explanation.proofs.Steps.{none-left, no-store-lines, lines-f
 
 -- f names rows below each row, as what they are, and f′ and g′ agree with f and g below n
 module _
-    (n : ℕ)
+    (M n : ℕ)
     (f f′ : ℕ → Term)
     (g g′ : ℕ → Range)
     (source : ℕ → ℕ)
@@ -30,11 +30,11 @@ module _
     (word : isArray (f i) ≡ false)
   where
     abbrev Alike : ℕ → ℕ → Type 0
-    Alike left m = walkLines f g source i (walk f g i left m) ≡ walkLines f′ g′ source i (walk f′ g′ i left m)
+    Alike left m = walkLines M f g source i (walk f g i left m) ≡ walkLines M f′ g′ source i (walk f′ g′ i left m)
 
     -- at a row that is no store
     alike-none : (left m : ℕ) → m < n → NoStore (f m) → Alike (suc left) m
-    alike-none left m l h = no-store-lines f g source i left m h ∙ sym (no-store-lines f′ g′ source i left m (rw (rows m l) at h))
+    alike-none left m l h = no-store-lines M f g source i left m h ∙ sym (no-store-lines M f′ g′ source i left m (rw (rows m l) at h))
 
     -- at a store
     module _ (left m a b c : ℕ) (l : m < n) (is : f m ≡ write a b c) (onward : Alike left a) where
@@ -52,17 +52,17 @@ module _
       alike-by : (why : Reason) → why ≡ reason f g b i → Alike (suc left) m
       unfolding knownBy
       alike-by SamePlace e =
-          lines-found f g source i left m a b c is SamePlace e refl ∙ sym (lines-found f′ g′ source i left m a b c is′ SamePlace (e ∙ told) refl)
+          lines-found M f g source i left m a b c is SamePlace e refl ∙ sym (lines-found M f′ g′ source i left m a b c is′ SamePlace (e ∙ told) refl)
       alike-by (Offsets p q) e =
-          lines-passed f g source i left m a b c is (Offsets p q) e refl ∙
-          ap (λ (xs : List ℕ). storeLine (source m) i (record { store = m; index = b; why = Offsets p q }) ++ xs) onward ∙
-          sym (lines-passed f′ g′ source i left m a b c is′ (Offsets p q) (e ∙ told) refl)
+          lines-passed M f g source i left m a b c is (Offsets p q) e refl ∙
+          ap (λ (xs : List ℕ). storeLine M (source m) i (record { store = m; index = b; why = Offsets p q }) ++ xs) onward ∙
+          sym (lines-passed M f′ g′ source i left m a b c is′ (Offsets p q) (e ∙ told) refl)
       alike-by (Separate spans) e =
-          lines-passed f g source i left m a b c is (Separate spans) e refl ∙
-          ap (λ (xs : List ℕ). storeLine (source m) i (record { store = m; index = b; why = Separate spans }) ++ xs) onward ∙
-          sym (lines-passed f′ g′ source i left m a b c is′ (Separate spans) (e ∙ told) refl)
+          lines-passed M f g source i left m a b c is (Separate spans) e refl ∙
+          ap (λ (xs : List ℕ). storeLine M (source m) i (record { store = m; index = b; why = Separate spans }) ++ xs) onward ∙
+          sym (lines-passed M f′ g′ source i left m a b c is′ (Separate spans) (e ∙ told) refl)
       alike-by Undecided e =
-          lines-stopped f g source i left m a b c is Undecided e refl ∙ sym (lines-stopped f′ g′ source i left m a b c is′ Undecided (e ∙ told) refl)
+          lines-stopped M f g source i left m a b c is Undecided e refl ∙ sym (lines-stopped M f′ g′ source i left m a b c is′ Undecided (e ∙ told) refl)
 
     alike-at : (left m : ℕ) → m < n → ((a : ℕ) → a < n → Alike left a) → (t : Term) → f m ≡ t → Alike (suc left) m
     alike-at left m l onward (const k) e = alike-none left m l (rw e tt)
@@ -77,6 +77,6 @@ module _
         let named : Names (Below f m) (write a b c) = rw e at (names m l) in
         alike-by left m a b c l e (onward a (omega (arith, named .0 .below))) (reason f g b i) refl
 
-    pub lines-local : (left m : ℕ) → m < n → walkLines f g source i (walk f g i left m) ≡ walkLines f′ g′ source i (walk f′ g′ i left m)
-    lines-local zero m l = none-left f g source i m ∙ sym (none-left f′ g′ source i m)
+    pub lines-local : (left m : ℕ) → m < n → walkLines M f g source i (walk f g i left m) ≡ walkLines M f′ g′ source i (walk f′ g′ i left m)
+    lines-local zero m l = none-left M f g source i m ∙ sym (none-left M f′ g′ source i m)
     lines-local (suc left) m l = alike-at left m l (lines-local left) (f m) refl

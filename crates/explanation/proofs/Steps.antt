@@ -26,24 +26,25 @@ use Rattle.term.proofs.Reasons.{related-reason}
 use Rattle.text.specs.Text.{Put}
 use Rattle.text.proofs.Puts.{put-none, put-then, put-length}
 use Rattle.listing.specs.List.{storeLine, storeLines, foundLine, standsLine, endLine, walkLines}
+use Rattle.listing.specs.Ready.{Numbered}
 use Rattle.explanation.specs.Ready.{Telling}
 
 -- ---- over lookups
 
-module _ (f : ℕ → Term) (g : ℕ → Range) (source : ℕ → ℕ) (i : ℕ) where
+module _ (M : ℕ) (f : ℕ → Term) (g : ℕ → Range) (source : ℕ → ℕ) (i : ℕ) where
   abbrev pub lines : ℕ → ℕ → List ℕ
-  lines left m = walkLines f g source i (walk f g i left m)
+  lines left m = walkLines M f g source i (walk f g i left m)
 
   -- the line of a store as a walk meets it
   abbrev pub lineOf : Met → List ℕ
-  lineOf s = storeLine (source (s .store)) i s
+  lineOf s = storeLine M (source (s .store)) i s
 
   pub none-left : (m : ℕ) → lines 0 m ≡ standsLine m
   unfolding walkLines walk met storeLines endLine
   none-left m = refl
 
   -- at a row that is no store
-  at-none : (m : ℕ) (on : ℕ → Walk) (t : Term) → NoStore t → walkLines f g source i (walkAt f g i m on t) ≡ standsLine m
+  at-none : (m : ℕ) (on : ℕ → Walk) (t : Term) → NoStore t → walkLines M f g source i (walkAt f g i m on t) ≡ standsLine m
   unfolding walkLines walkAt met storeLines endLine
   at-none m on (const k) h = refl
   at-none m on (var name k u) h = refl
@@ -68,12 +69,12 @@ module _ (f : ℕ → Term) (g : ℕ → Range) (source : ℕ → ℕ) (i : ℕ)
     unfolding meets indexOf
     meets-here = rw (is, told)
 
-    walks : lines (suc left) m ≡ walkLines f g source i (step m a c (walk f g i left) (knownBy why))
+    walks : lines (suc left) m ≡ walkLines M f g source i (step m a c (walk f g i left) (knownBy why))
     unfolding walk walkAt
     walks = rw (is, told, ← related-reason f g b i)
 
-    known-as : (k : Relation) → knownBy why ≡ k → lines (suc left) m ≡ walkLines f g source i (step m a c (walk f g i left) k)
-    known-as k e = walks ∙ ap (λ (u : Relation). walkLines f g source i (step m a c (walk f g i left) u)) e
+    known-as : (k : Relation) → knownBy why ≡ k → lines (suc left) m ≡ walkLines M f g source i (step m a c (walk f g i left) k)
+    known-as k e = walks ∙ ap (λ (u : Relation). walkLines M f g source i (step m a c (walk f g i left) u)) e
 
     pub lines-found : knownBy why ≡ Same → lines (suc left) m ≡ lineOf here ++ foundLine c
     unfolding step walkLines met storeLines endLine
@@ -91,33 +92,33 @@ module _ (f : ℕ → Term) (g : ℕ → Range) (source : ℕ → ℕ) (i : ℕ)
     unfolding step walkLines met storeLines endLine
     lines-passed e =
         known-as Apart e ∙
-        append-assoc (lineOf (meets f g i m)) (storeLines source i (met f g i (walk f g i left a))) (endLine (walk f g i left a)) ∙
+        append-assoc (lineOf (meets f g i m)) (storeLines M source i (met f g i (walk f g i left a))) (endLine (walk f g i left a)) ∙
         ap (λ (s : Met). lineOf s ++ lines left a) meets-here
 
 -- ---- the loop
 
 -- at array row n, with `compared` stores behind, whose lines are `done`
-pub record Told (T R S l : List ℕ) (at limit i m : ℕ) (r : ℕ) (now : List ℕ) (next n compared : ℕ) : Type 0 where
+pub record Told (M : ℕ) (T R S l : List ℕ) (at limit i m : ℕ) (r : ℕ) (now : List ℕ) (next n compared : ℕ) : Type 0 where
   pub done : List ℕ
   pub put : Put l at done (256 * compared) now next
-  pub rest : done ++ lines (look R) (kept S) (sourceAt T) i (limit - compared) n ≡ lines (look R) (kept S) (sourceAt T) i limit m
+  pub rest : done ++ lines M (look R) (kept S) (sourceAt T) i (limit - compared) n ≡ lines M (look R) (kept S) (sourceAt T) i limit m
   pub below : n < r
   pub few : compared ≤ limit
 
-module _ (T R S l : List ℕ) (at limit r i : ℕ) (j : Index) (m : ℕ) (given : Telling T R S at limit r i j m) where
+module _ (M : ℕ) (T R S l : List ℕ) (at limit r i : ℕ) (j : Index) (m : ℕ) (given : Telling T R S at limit r i j m) where
   abbrev text : List ℕ
-  text = lines (look R) (kept S) (sourceAt T) i limit m
+  text = lines M (look R) (kept S) (sourceAt T) i limit m
 
-  pub tell-begins : Told T R S l at limit i m r l at m 0
+  pub tell-begins : Told M T R S l at limit i m r l at m 0
   tell-begins = record {
     done = [];
     put = put-none l at;
-    rest = ap (λ (k : ℕ). lines (look R) (kept S) (sourceAt T) i k m) (omega arith);
+    rest = ap (λ (k : ℕ). lines M (look R) (kept S) (sourceAt T) i k m) (omega arith);
     below = given .walking .below;
     few = omega arith;
   }
 
-  module _ {now : List ℕ} {next n compared : ℕ} (inv : Told T R S l at limit i m r now next n compared) where
+  module _ {now : List ℕ} {next n compared : ℕ} (inv : Told M T R S l at limit i m r now next n compared) where
     pub tell-walks : Walking R S r i j n
     tell-walks = record { rows = given .walking .rows; index = given .walking .index; below = inv .below }
 
@@ -146,7 +147,7 @@ module _ (T R S l : List ℕ) (at limit r i : ℕ) (j : Index) (m : ℕ) (given 
       tell-length-2 p = put-length p ∙ put-length line ∙ put-length (inv .put)
 
     -- the last line
-    finish : {now′ : List ℕ} {e : ℕ} (last : List ℕ) → lines (look R) (kept S) (sourceAt T) i (limit - compared) n ≡ last
+    finish : {now′ : List ℕ} {e : ℕ} (last : List ℕ) → lines M (look R) (kept S) (sourceAt T) i (limit - compared) n ≡ last
         → Put now next last 40 now′ e → Put l at text (256 * limit + 40) now′ e
     finish last e p =
         let whole : inv .done ++ last ≡ text = ap (λ (ys : List ℕ). inv .done ++ ys) (sym e) ∙ inv .rest in
@@ -155,30 +156,42 @@ module _ (T R S l : List ℕ) (at limit r i : ℕ) (j : Index) (m : ℕ) (given 
     pub tell-spent : {now′ : List ℕ} {e : ℕ} → limit ≤ compared → Put now next (standsLine n) 40 now′ e → Put l at text (256 * limit + 40) now′ e
     tell-spent h p =
         let none : limit - compared ≡ 0 = omega (arith, inv .few) in
-        finish (standsLine n) (rw none (none-left (look R) (kept S) (sourceAt T) i n)) p
+        finish (standsLine n) (rw none (none-left M (look R) (kept S) (sourceAt T) i n)) p
 
     module _ (more : compared < limit) {x : Row} (row : Decoded R n x) where
       left : limit - compared ≡ suc (limit - (compared + 1))
       left = omega arith
 
       pub tell-ends : {now′ : List ℕ} {e : ℕ} → (x .kind ≡ WRITE → ⊥) → Put now next (standsLine n) 40 now′ e → Put l at text (256 * limit + 40) now′ e
-      tell-ends h p = finish (standsLine n) (rw left (no-store-lines (look R) (kept S) (sourceAt T) i (limit - (compared + 1)) n (no-store R n x row h))) p
+      tell-ends h p = finish (standsLine n) (rw left (no-store-lines M (look R) (kept S) (sourceAt T) i (limit - (compared + 1)) n (no-store R n x row h))) p
 
       module _ (kind : x .kind ≡ WRITE) where
         pub tell-compares : Comparing R S (x .b) i j
         tell-compares = store-compared R n x row S r i j tell-walks kind
 
+        named : NamesBelow n (write (x .a) (x .b) (x .c))
+        named = rw (store-at R n x row kind) at (given .walking .rows .names n (inv .below))
+
+        -- whatever instruction is given
+        pub tell-numbered : {why : Reason} {value source : ℕ} → Read value (2 ^ 32) source → Numbered source i (record { store = n; index = x .b; why = why })
+        tell-numbered recorded = record {
+          instruction = recorded .below;
+          store = omega (arith, inv .below, given .walking .rows .few);
+          index = omega (arith, named .1, inv .below, given .walking .rows .few);
+          sought = omega (arith, given .sought, given .walking .rows .few);
+        }
+
         module _ {why : Reason} (told : why ≡ reason (look R) (kept S) (x .b) i) {source : ℕ} (recorded : Read (sourceAt T n) (2 ^ 32) source)
-            {now₂ : List ℕ} {next₂ : ℕ} (written : Put now next (storeLine source i (record { store = n; index = x .b; why = why })) 256 now₂ next₂) where
+            {now₂ : List ℕ} {next₂ : ℕ} (written : Put now next (storeLine M source i (record { store = n; index = x .b; why = why })) 256 now₂ next₂) where
           abbrev said : List ℕ
-          said = storeLine (sourceAt T n) i (record { store = n; index = x .b; why = why })
+          said = storeLine M (sourceAt T n) i (record { store = n; index = x .b; why = why })
 
           line : Put now next said 256 now₂ next₂
           line = rw (← recorded .is) written
 
           -- the store's line, and the last one
           finish-2 : {now′ : List ℕ} {e : ℕ} (last : List ℕ)
-              → lines (look R) (kept S) (sourceAt T) i (suc (limit - (compared + 1))) n ≡ said ++ last
+              → lines M (look R) (kept S) (sourceAt T) i (suc (limit - (compared + 1))) n ≡ said ++ last
               → Put now₂ next₂ last 40 now′ e → Put l at text (256 * limit + 40) now′ e
           finish-2 last e p =
               let whole : inv .done ++ said ++ last ≡ text =
@@ -189,19 +202,14 @@ module _ (T R S l : List ℕ) (at limit r i : ℕ) (j : Index) (m : ℕ) (given 
             pub tell-finds : {now′ : List ℕ} {e : ℕ} → k ≡ Same → Put now₂ next₂ (foundLine (x .c)) 40 now′ e → Put l at text (256 * limit + 40) now′ e
             tell-finds z p =
                 finish-2 (foundLine (x .c))
-                (lines-found (look R) (kept S) (sourceAt T) i (limit - (compared + 1)) n (x .a) (x .b) (x .c) (store-at R n x row kind) why told (sym known ∙ z)) p
+                (lines-found M (look R) (kept S) (sourceAt T) i (limit - (compared + 1)) n (x .a) (x .b) (x .c) (store-at R n x row kind) why told (sym known ∙ z)) p
 
             pub tell-stops : {now′ : List ℕ} {e : ℕ} → k ≡ Unknown → Put now₂ next₂ (standsLine n) 40 now′ e → Put l at text (256 * limit + 40) now′ e
             tell-stops z p =
                 finish-2 (standsLine n)
-                (lines-stopped (look R) (kept S) (sourceAt T) i (limit - (compared + 1)) n (x .a) (x .b) (x .c) (store-at R n x row kind) why told (sym known ∙ z)) p
+                (lines-stopped M (look R) (kept S) (sourceAt T) i (limit - (compared + 1)) n (x .a) (x .b) (x .c) (store-at R n x row kind) why told (sym known ∙ z)) p
 
-            array-below : x .a < n
-            array-below =
-                let named : NamesBelow n (write (x .a) (x .b) (x .c)) = rw (store-at R n x row kind) at (given .walking .rows .names n (inv .below)) in
-                named .0
-
-            pub tell-passes : k ≡ Apart → Told T R S l at limit i m r now₂ next₂ (x .a) (compared + 1)
+            pub tell-passes : k ≡ Apart → Told M T R S l at limit i m r now₂ next₂ (x .a) (compared + 1)
             tell-passes z = record {
               done = inv .done ++ said;
               put = put-then (inv .put) line (omega arith);
@@ -209,9 +217,9 @@ module _ (T R S l : List ℕ) (at limit r i : ℕ) (j : Index) (m : ℕ) (given 
                   append-assoc (inv .done) _ _ ∙
                   ap (λ (ys : List ℕ). inv .done ++ ys)
                   (sym
-                  (lines-passed (look R) (kept S) (sourceAt T) i (limit - (compared + 1)) n (x .a) (x .b) (x .c) (store-at R n x row kind) why told (sym known ∙ z)) ∙
+                  (lines-passed M (look R) (kept S) (sourceAt T) i (limit - (compared + 1)) n (x .a) (x .b) (x .c) (store-at R n x row kind) why told (sym known ∙ z)) ∙
                   rw left) ∙
                   inv .rest;
-              below = omega (arith, array-below, inv .below);
+              below = omega (arith, named .0, inv .below);
               few = omega arith;
             }

@@ -6,7 +6,7 @@ use mathlib.Core.List.{List}
 use lib.ListN.{length}
 use Rattle.row.specs.Names.{LENGTH, place}
 use Rattle.basis.specs.Reason.{first}
-use Rattle.table.specs.Refusals.{rows, headReasons, checkTable, accepted}
+use Rattle.table.specs.Refusals.{width, rows, headReasons, checkTable, accepted}
 use Rattle.term.specs.Term.{isRead}
 use Rattle.term.specs.Bytes.{look}
 use Rattle.walks.specs.declared.relation.Index.{Index}
@@ -17,11 +17,13 @@ use Rattle.simplify.specs.Answer.{LIMIT}
 pub record Telling (T R S : List ℕ) (at limit r i : ℕ) (j : Index) (m : ℕ) : Type 0 where
   pub room : place r + LENGTH ≤ length T
   pub walking : Walking R S r i j m
+  pub sought : i < r
   pub early : at < 2 ^ 16
   pub few : limit ≤ LIMIT
 
 -- of the list of READ row r of a table
 pub record Listable (T R : List ℕ) (r : ℕ) : Type 0 where
+  pub wide : width T ≤ 64
   pub room : place r + LENGTH ≤ length T
   pub reads : isRead (look T r) ≡ true
   pub names : NamesBelow r (look T r)

@@ -23,7 +23,7 @@ use Rattle.listing.specs.List.{listFor}
 
 -- the list of row x of a table: the walk over its fresh result, with the instructions of the table's rows
 unfoldable pub listOf : List ℕ → ℕ → List ℕ
-listOf t x = listFor LIMIT (freshRows t) (rangeOf (modulus t) (freshRows t)) (sourceAt t) x (rowOf (freshRows t x)) (look t x)
+listOf t x = listFor (modulus t) LIMIT (freshRows t) (rangeOf (modulus t) (freshRows t)) (sourceAt t) x (rowOf (freshRows t x)) (look t x)
 
 -- 1 to 7
 unfoldable pub rowReasons : List ℕ → List ℕ → ℕ → List Reason

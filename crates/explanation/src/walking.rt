@@ -1,8 +1,12 @@
 // The list of one read.
-ghost use Prim.Native.Nat.{_+_, _*_};
+ghost use Prim.Native.Nat.{_+_, _*_, _≤_};
+ghost use mathlib.Core.Path.{_≡_};
+ghost use lib.ListN.{length};
 ghost use Rattle.range.specs.Store.{kept};
+ghost use Rattle.row.specs.Names.{HEADER};
 ghost use Rattle.row.specs.Bytes.{rowAt, sourceAt};
-ghost use Rattle.simplify.specs.Answer.{LIMIT};
+ghost use Rattle.simplify.specs.Answer.{LIMIT, modulus};
+ghost use Rattle.table.specs.Refusals.{width};
 ghost use Rattle.term.specs.Bytes.{look};
 ghost use Rattle.term.specs.Walk.{walk};
 ghost use Rattle.text.specs.Text.{Put};
@@ -20,10 +24,11 @@ use term::Relation;
 use walks::Index;
 
 // Writes a line for each store that the walk for index row i compares, from array row m on, and where the walk ends. The walk goes through the
-// result; the instructions of its rows are those of the table.
+// result; the instructions of its rows are those of the table. `top` is the largest word.
 fn put_walk(
     out: &mut [u8],
     at: usize,
+    top: u64,
     table: &[u8],
     result: &[u8],
     store: &[u64; 2048],
@@ -34,7 +39,7 @@ fn put_walk(
     m: usize,
 ) -> usize
     requires { ⌜ Telling (now table) (now result) (now store) at limit r i j m ⌝ }
-    ensures { λ e. ⌜ Put (now (out .entry)) at (walkLines (look (now (result .entry))) (kept (now (store .entry))) (sourceAt (now (table .entry))) i (walk (look (now (result .entry))) (kept (now (store .entry))) i limit m)) (256 * limit + 40) (now (out .exit)) e ⌝ }
+    ensures { λ e. ⌜ Put (now (out .entry)) at (walkLines (top + 1) (look (now (result .entry))) (kept (now (store .entry))) (sourceAt (now (table .entry))) i (walk (look (now (result .entry))) (kept (now (store .entry))) i limit m)) (256 * limit + 40) (now (out .exit)) e ⌝ }
 {
     let mut next = at;
     let mut n = m;
@@ -49,6 +54,7 @@ fn put_walk(
         next = put_store(
             out,
             next,
+            top,
             Row::source_at(table, n),
             i,
             Met {
@@ -67,10 +73,18 @@ fn put_walk(
     put_stands(out, next, n)
 }
 
+// The largest word of a table.
+fn top_of(t: &[u8]) -> u64
+    requires { ⌜ HEADER ≤ length (now t) ⌝ ∗ ⌜ width (now t) ≤ 64 ⌝ }
+    ensures { λ top. ⌜ top + 1 ≡ modulus (now (t .entry)) ⌝ }
+{
+    word::top(table::width_of(t))
+}
+
 // Writes the list of READ row r of the table.
 pub fn put_list(out: &mut [u8], table: &[u8], result: &[u8], store: &[u64; 2048], r: usize) -> usize
     requires { ⌜ Listable (now table) (now result) r ⌝ }
-    ensures { λ e. ⌜ Put (now (out .entry)) 0 (listFor LIMIT (look (now (result .entry))) (kept (now (store .entry))) (sourceAt (now (table .entry))) r (rowAt (now (result .entry)) r) (look (now (table .entry)) r)) (most (LIMIT + 1)) (now (out .exit)) e ⌝ }
+    ensures { λ e. ⌜ Put (now (out .entry)) 0 (listFor (modulus (now (table .entry))) LIMIT (look (now (result .entry))) (kept (now (store .entry))) (sourceAt (now (table .entry))) r (rowAt (now (result .entry)) r) (look (now (table .entry)) r)) (most (LIMIT + 1)) (now (out .exit)) e ⌝ }
 {
     let x = Row::decode(table, r);
     let m = x.a;
@@ -78,6 +92,7 @@ pub fn put_list(out: &mut [u8], table: &[u8], result: &[u8], store: &[u64; 2048]
     let source = Row::source_at(table, r);
     let next = put_read(out, 0, source, r, m, i);
     let j = walks::index_at(result, store, i);
-    let end = put_walk(out, next, table, result, store, LIMIT, r, i, j, m);
+    let top = top_of(table);
+    let end = put_walk(out, next, top, table, result, store, LIMIT, r, i, j, m);
     put_result(out, end, r, Row::decode(result, r), source)
 }

@@ -1,4 +1,4 @@
 -- Laws of the list.
-pub mod Written
 pub mod Short
+pub mod Written
 pub mod Examples

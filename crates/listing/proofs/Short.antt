@@ -1,47 +1,90 @@
 -- How long a list is: at most 256 bytes for each store compared, and 256 more.
-use Prim.Native.Nat.{ℕ, suc, _+_, _*_, _≤_, _<_}
+use Prim.Native.Nat.{ℕ, suc, _+_, _-_, _*_, _^_, _≤_, _<_}
 use native.Mathlib.Omega.{arith}
-use mathlib.Core.Path.{_≡_}
+use mathlib.Core.Path.{_≡_, subst}
 use mathlib.Core.List.{List, [], _∷_}
 use lib.ListN.{length, length-append}
+use Rattle.basis.proofs.Pick.{pick-case}
 use Rattle.range.specs.declared.Range.{Range}
+use Rattle.pieces.specs.Pieces.{Piece, piece}
+use Rattle.range.specs.Range.{isTwo, pieces}
 use Rattle.row.specs.Names.{CONST, VAR, SHIFT, SUM, DIFF, NEG, READ, FRESH, WRITE}
 use Rattle.row.specs.Bytes.{row}
+use Rattle.table.specs.Refusals.{MOST}
 use Rattle.term.specs.declared.Reason.{Reason}
 use Rattle.term.specs.declared.Reason.the-variants.{SamePlace, Offsets, Separate, Undecided}
 use Rattle.term.specs.declared.Met.{Met}
 use Rattle.term.specs.Term.{Term, const, var, shift, sum, diff, neg, read, fresh, write, rowOf}
 use Rattle.term.specs.Walk.{Walk, found, passed, undecided, ended}
 use Rattle.term.specs.Reason.{met}
+use Rattle.term.specs.WellFormed.{Names, Below, WellFormed}
+use Rattle.term.proofs.Follows.{Follows, finds, passes, stops, ends, spent, Each, meeting}
 use Rattle.text.specs.Text.{decimal, spaced}
 use Rattle.text.proofs.Decimal.{decimal-one, decimal-few, decimal-within}
 use Rattle.lines.specs.Lines.{line}
-use Rattle.listing.specs.List.{rangeText, reasonText, accessText, readLine, storeLine, storeLines, foundLine, standsLine}
+use Rattle.listing.specs.List.{pieceText, piecesText, rangeText, reasonText, accessText, readLine, storeLine, storeLines, foundLine, standsLine}
 use Rattle.listing.specs.List.{endLine, resultLine, walkLines, list, most}
+use Rattle.listing.specs.Ready.{Numbered}
 
-range-short : (a : Range) → length (rangeText a) ≤ 42
-unfolding rangeText
-range-short a = simp length-append (omega (arith, decimal-few (a .lo), decimal-few (a .hi)))
+piece-short : (p : Piece) → length (pieceText p) ≤ 42
+unfolding pieceText
+piece-short p = simp length-append (omega (arith, decimal-few (p .lo), decimal-few (p .hi)))
 
-reason-short : (why : Reason) → length (reasonText why) ≤ 106
+range-short : (M : ℕ) (a : Range) → length (rangeText M a) ≤ 86
+unfolding rangeText piecesText pieces
+range-short M a =
+    pick-case (λ (ps : List Piece). length (piecesText ps) ≤ 86) (isTwo a)
+    (λ _. simp length-append (omega (arith, piece-short (piece 0 (a .hi)), piece-short (piece (a .lo) (M - 1)))))
+    (λ _. omega (arith, piece-short (piece (a .lo) (a .hi))))
+
+reason-short : (M : ℕ) (why : Reason) → length (reasonText M why) ≤ 194
 unfolding reasonText
-reason-short SamePlace = omega arith
-reason-short (Offsets p q) = simp length-append (omega (arith, decimal-few p, decimal-few q))
-reason-short (Separate spans) = simp length-append (omega (arith, range-short (spans .store), range-short (spans .read)))
-reason-short Undecided = omega arith
+reason-short M SamePlace = omega arith
+reason-short M (Offsets p q) = simp length-append (omega (arith, decimal-few p, decimal-few q))
+reason-short M (Separate spans) = simp length-append (omega (arith, range-short M (spans .store), range-short M (spans .read)))
+reason-short M Undecided = omega arith
 
-pub store-short : (source i : ℕ) (s : Met) → length (storeLine source i s) ≤ 256
+pub store-short : (M source i : ℕ) (s : Met) → Numbered source i s → length (storeLine M source i s) ≤ 256
 unfolding storeLine accessText
-store-short source i s =
-    simp length-append (omega (arith, decimal-few source, decimal-few (s .store), decimal-few (s .index), decimal-few i, reason-short (s .why)))
+store-short M source i s short =
+    simp length-append
+    (omega (
+      arith,
+      decimal-within 9 source (omega (arith, short .instruction)),
+      decimal-within 3 (s .store) (omega (arith, short .store)),
+      decimal-within 3 (s .index) (omega (arith, short .index)),
+      decimal-within 3 i (omega (arith, short .sought)),
+      reason-short M (s .why),
+    ))
 
 one-more : {a b : ℕ} (n : ℕ) → a ≤ 256 → b ≤ 256 * n → a + b ≤ 256 * suc n
 one-more n first others = omega arith
 
-stores-short : (source : ℕ → ℕ) (i : ℕ) (ss : List Met) → length (storeLines source i ss) ≤ 256 * length ss
+-- stores that each have such numbers, whatever row gives the instruction
+abbrev pub EachNumbered : (ℕ → ℕ) → ℕ → List Met → Type 0
+EachNumbered source i ss = Each (λ s. (x : ℕ) → Numbered (source x) i s) ss
+
+stores-short : (M : ℕ) (source : ℕ → ℕ) (i : ℕ) (ss : List Met) → EachNumbered source i ss → length (storeLines M source i ss) ≤ 256 * length ss
 unfolding storeLines
-stores-short source i [] = omega arith
-stores-short source i (s ∷ ss) = rw length-append (one-more (length ss) (store-short _ i s) (stores-short source i ss))
+stores-short M source i [] short = omega arith
+stores-short M source i (s ∷ ss) short = rw length-append (one-more (length ss) (store-short M _ i s (short .0 _)) (stores-short M source i ss (short .1)))
+
+-- a walk from a row of a table on, whose index is one too, compares such stores
+module _ (M : ℕ) (f : ℕ → Term) (g : ℕ → Range) (source : ℕ → ℕ) (i : ℕ) (formed : WellFormed M f) (recorded : (x : ℕ) → source x < 2 ^ 32) (sought : i < MOST) where
+  module _ (m a b c : ℕ) (is : f m ≡ write a b c) (few : m < MOST) where
+    named : Names (Below f m) (write a b c)
+    named = subst (Names (Below f m)) is (formed .names m)
+
+    numbered : (why : Reason) (x : ℕ) → Numbered (source x) i (meeting m b why)
+    numbered why x = record { instruction = recorded x; store = few; index = omega (arith, named .1 .below); sought = sought }
+
+  pub each-numbered : {left m : ℕ} {steps : List Met} {w : Walk} → Follows f g i left m steps w → m < MOST → EachNumbered source i steps
+  each-numbered (finds e k) few = (numbered _ _ _ _ e few SamePlace, tt)
+  each-numbered (passes {m = m} {a = a} {why = why} e k apart on) few =
+      (numbered _ _ _ _ e few why, each-numbered on (omega (arith, named m a _ _ e few .0 .below)))
+  each-numbered (stops e k) few = (numbered _ _ _ _ e few Undecided, tt)
+  each-numbered (ends n) few = tt
+  each-numbered spent few = tt
 
 pub read-short : (source r m i : ℕ) → r < 10000 → length (readLine source r m i) ≤ 100
 unfolding readLine accessText
@@ -84,9 +127,9 @@ result-short r t source few = simp length-append (omega (arith, line-short r t s
 
 -- ---- the whole, of a row number of at most four digits
 
-pub list-short : (f : ℕ → Term) (g : ℕ → Range) (source : ℕ → ℕ) (r m i : ℕ) (w : Walk) (t : Term) → r < 10000
-    → length (list f g source r m i w (rowOf t)) ≤ most (length (met f g i w))
+pub list-short : (M : ℕ) (f : ℕ → Term) (g : ℕ → Range) (source : ℕ → ℕ) (r m i : ℕ) (w : Walk) (t : Term) → r < 10000
+    → EachNumbered source i (met f g i w) → length (list M f g source r m i w (rowOf t)) ≤ most (length (met f g i w))
 unfolding list walkLines
-list-short f g source r m i w t few =
+list-short M f g source r m i w t few short =
     simp length-append
-    (omega (arith, read-short (source r) r m i few, stores-short source i (met f g i w), end-short w, result-short r t (source r) few))
+    (omega (arith, read-short (source r) r m i few, stores-short M source i (met f g i w) short, end-short w, result-short r t (source r) few))

@@ -1,2 +1,3 @@
 -- What the contracts of this crate say.
 pub mod List
+pub mod Ready

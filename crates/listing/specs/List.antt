@@ -1,7 +1,9 @@
--- The list of a walk, as a person reads it: docs/WHY.md.
+-- The list of a walk, as a person reads it: docs/WHY.md. Its words are below M.
 use Prim.Native.Nat.{ℕ, _+_, _*_}
 use mathlib.Core.List.{List, [], _∷_, _++_}
 use Rattle.range.specs.declared.Range.{Range}
+use Rattle.pieces.specs.Pieces.{Piece}
+use Rattle.range.specs.Range.{pieces}
 use Rattle.row.specs.declared.Row.{Row}
 use Rattle.lines.specs.Lines.{line}
 use Rattle.term.specs.declared.Reason.{Reason}
@@ -12,15 +14,24 @@ use Rattle.term.specs.Walk.{Walk, found, passed, undecided, ended, walk}
 use Rattle.term.specs.Reason.{met}
 use Rattle.text.specs.Text.{ascii, decimal}
 
--- a range: the one place where a range is written
-unfoldable pub rangeText : Range → List ℕ
-rangeText a = decimal (a .lo) ++ ascii ".." ++ decimal (a .hi)
+-- a piece, by its two ends
+unfoldable pub pieceText : Piece → List ℕ
+pieceText p = decimal (p .lo) ++ ascii ".." ++ decimal (p .hi)
 
-unfoldable pub reasonText : Reason → List ℕ
-reasonText SamePlace = ascii "same place"
-reasonText (Offsets p q) = ascii "different offsets on a shared base, " ++ decimal p ++ ascii " and " ++ decimal q
-reasonText (Separate spans) = ascii "separate ranges, " ++ rangeText (spans .store) ++ ascii " and " ++ rangeText (spans .read)
-reasonText Undecided = ascii "undecided"
+unfoldable pub piecesText : List Piece → List ℕ
+piecesText [] = []
+piecesText (p ∷ []) = pieceText p
+piecesText (p ∷ q ∷ ps) = pieceText p ++ ascii ", " ++ piecesText (q ∷ ps)
+
+-- a range, its lower piece first: the one place where a range is written
+unfoldable pub rangeText : ℕ → Range → List ℕ
+rangeText M a = piecesText (pieces M a)
+
+unfoldable pub reasonText : ℕ → Reason → List ℕ
+reasonText M SamePlace = ascii "same place"
+reasonText M (Offsets p q) = ascii "different offsets on a shared base, " ++ decimal p ++ ascii " and " ++ decimal q
+reasonText M (Separate spans) = ascii "separate ranges, " ++ rangeText M (spans .store) ++ ascii " and " ++ rangeText M (spans .read)
+reasonText M Undecided = ascii "undecided"
 
 -- how the line of a load or a store begins: its instruction, where an engineer looks first, and its row
 unfoldable pub accessText : ℕ → List ℕ → ℕ → List ℕ
@@ -31,15 +42,15 @@ unfoldable pub readLine : ℕ → ℕ → ℕ → ℕ → List ℕ
 readLine source r m i = accessText source (ascii ": read ") r ++ ascii ", array " ++ decimal m ++ ascii ", index " ++ decimal i ++ ascii "\n"
 
 -- a store that was recorded at instruction `source` and compared with index row i
-unfoldable pub storeLine : ℕ → ℕ → Met → List ℕ
-storeLine source i s =
+unfoldable pub storeLine : ℕ → ℕ → ℕ → Met → List ℕ
+storeLine M source i s =
     accessText source (ascii ": store ") (s .store) ++ ascii ", index " ++ decimal (s .index) ++ ascii " against " ++ decimal i ++ ascii ", " ++
-    reasonText (s .why) ++ ascii "\n"
+    reasonText M (s .why) ++ ascii "\n"
 
 -- stores, each with the instruction of its row
-unfoldable pub storeLines : (ℕ → ℕ) → ℕ → List Met → List ℕ
-storeLines source i [] = []
-storeLines source i (s ∷ ss) = storeLine (source (s .store)) i s ++ storeLines source i ss
+unfoldable pub storeLines : ℕ → (ℕ → ℕ) → ℕ → List Met → List ℕ
+storeLines M source i [] = []
+storeLines M source i (s ∷ ss) = storeLine M (source (s .store)) i s ++ storeLines M source i ss
 
 -- where a walk ended: the row of the element that was found, or the array that the read stands on
 unfoldable pub foundLine : ℕ → List ℕ
@@ -59,19 +70,19 @@ unfoldable pub resultLine : ℕ → Row → ℕ → List ℕ
 resultLine r x source = ascii "result " ++ line r x source
 
 -- the stores that the walk w compared for index row i, nearest first, and where it ended; `source` has the instruction of each row
-unfoldable pub walkLines : (ℕ → Term) → (ℕ → Range) → (ℕ → ℕ) → ℕ → Walk → List ℕ
-walkLines f g source i w = storeLines source i (met f g i w) ++ endLine w
+unfoldable pub walkLines : ℕ → (ℕ → Term) → (ℕ → Range) → (ℕ → ℕ) → ℕ → Walk → List ℕ
+walkLines M f g source i w = storeLines M source i (met f g i w) ++ endLine w
 
 -- the list of READ row r, of array m at index i, whose walk is w; x is the row that it became
-unfoldable pub list : (ℕ → Term) → (ℕ → Range) → (ℕ → ℕ) → ℕ → ℕ → ℕ → Walk → Row → List ℕ
-list f g source r m i w x = readLine (source r) r m i ++ walkLines f g source i w ++ resultLine r x (source r)
+unfoldable pub list : ℕ → (ℕ → Term) → (ℕ → Range) → (ℕ → ℕ) → ℕ → ℕ → ℕ → Walk → Row → List ℕ
+list M f g source r m i w x = readLine (source r) r m i ++ walkLines M f g source i w ++ resultLine r x (source r)
 
 -- the bytes that a list takes at most, by the number of stores compared
 abbrev pub most : ℕ → ℕ
 most compared = 256 * compared + 256
 
 -- the list of row r of a table, which is the given term: a read compares at most `limit` stores. (Of a row that is no READ none is asked for.)
-module _ (limit : ℕ) (f : ℕ → Term) (g : ℕ → Range) (source : ℕ → ℕ) (r : ℕ) (x : Row) where
+module _ (M limit : ℕ) (f : ℕ → Term) (g : ℕ → Range) (source : ℕ → ℕ) (r : ℕ) (x : Row) where
   unfoldable pub listFor : Term → List ℕ
   listFor (const k) = []
   listFor (var name k h) = []
@@ -79,6 +90,6 @@ module _ (limit : ℕ) (f : ℕ → Term) (g : ℕ → Range) (source : ℕ → 
   listFor (sum a b k) = []
   listFor (diff a b k) = []
   listFor (neg a k) = []
-  listFor (read m i) = list f g source r m i (walk f g i limit m) x
+  listFor (read m i) = list M f g source r m i (walk f g i limit m) x
   listFor fresh = []
   listFor (write a b c) = []

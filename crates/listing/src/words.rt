@@ -1,4 +1,4 @@
-// The lines of a list, written into a slice that the caller lends.
+// The lines of a list, written into a slice that the caller lends. `top` is the largest word.
 use lines::put_line;
 use range::Range;
 use row::Row;
@@ -11,8 +11,10 @@ use text::put_word;
 ghost use Prim.Native.Nat.{_+_, _<_, _^_};
 ghost use mathlib.Core.List.{_++_};
 ghost use lib.ListN.{length};
+ghost use Rattle.pieces.specs.Pieces.{piece};
 ghost use Rattle.text.specs.Text.{ascii, decimal, Put};
-ghost use Rattle.listing.specs.List.{rangeText, reasonText, accessText, readLine, storeLine, foundLine, standsLine, resultLine};
+ghost use Rattle.listing.specs.List.{pieceText, rangeText, reasonText, accessText, readLine, storeLine, foundLine, standsLine, resultLine};
+ghost use Rattle.listing.specs.Ready.{Numbered};
 
 // Writes a word and a number.
 fn put_labelled(out: &mut [u8], at: usize, word: &[u8], v: u64) -> usize
@@ -32,51 +34,64 @@ fn put_last(out: &mut [u8], at: usize, word: &[u8], v: u64) -> usize
     put_byte(out, end, b'\n')
 }
 
-// Writes a range: the one place where a range is written.
-pub fn put_range(out: &mut [u8], at: usize, a: Range) -> usize
+// Writes a piece of a range.
+fn put_piece(out: &mut [u8], at: usize, lo: u64, hi: u64) -> usize
     requires { ⌜ at < 2 ^ 61 ⌝ }
-    ensures { λ r. ⌜ Put (now (out .entry)) at (rangeText a) 42 (now (out .exit)) r ⌝ }
+    ensures { λ r. ⌜ Put (now (out .entry)) at (pieceText (piece lo hi)) 42 (now (out .exit)) r ⌝ }
 {
-    let next = put_decimal(out, at, a.lo);
-    put_labelled(out, next, b"..", a.hi)
+    let next = put_decimal(out, at, lo);
+    put_labelled(out, next, b"..", hi)
+}
+
+// Writes a range, its lower piece first: the one place where a range is written.
+pub fn put_range(out: &mut [u8], at: usize, top: u64, a: Range) -> usize
+    requires { ⌜ at < 2 ^ 60 ⌝ }
+    ensures { λ r. ⌜ Put (now (out .entry)) at (rangeText (top + 1) a) 86 (now (out .exit)) r ⌝ }
+{
+    if Range::is_two(a) {
+        let next = put_piece(out, at, 0, a.hi);
+        let upper = put_word(out, next, b", ");
+        return put_piece(out, upper, a.lo, top);
+    }
+    put_piece(out, at, a.lo, a.hi)
 }
 
 // Writes a word and a range.
-fn put_ranged(out: &mut [u8], at: usize, word: &[u8], a: Range) -> usize
-    requires { ⌜ at + length (now word) < 2 ^ 61 ⌝ }
-    ensures { λ r. ⌜ Put (now (out .entry)) at (now (word .entry) ++ rangeText a) (length (now (word .entry)) + 42) (now (out .exit)) r ⌝ }
+fn put_ranged(out: &mut [u8], at: usize, word: &[u8], top: u64, a: Range) -> usize
+    requires { ⌜ at + length (now word) < 2 ^ 60 ⌝ }
+    ensures { λ r. ⌜ Put (now (out .entry)) at (now (word .entry) ++ rangeText (top + 1) a) (length (now (word .entry)) + 86) (now (out .exit)) r ⌝ }
 {
     let next = put_word(out, at, word);
-    put_range(out, next, a)
+    put_range(out, next, top, a)
 }
 
 // Writes the reason that two offsets give.
 fn put_offsets(out: &mut [u8], at: usize, p: u64, q: u64) -> usize
     requires { ⌜ at < 2 ^ 60 ⌝ }
-    ensures { λ r. ⌜ Put (now (out .entry)) at (reasonText (Reason.Offsets p q)) 81 (now (out .exit)) r ⌝ }
+    ensures { λ r. ⌜ Put (now (out .entry)) at (ascii "different offsets on a shared base, " ++ decimal p ++ ascii " and " ++ decimal q) 81 (now (out .exit)) r ⌝ }
 {
     let next = put_labelled(out, at, b"different offsets on a shared base, ", p);
     put_labelled(out, next, b" and ", q)
 }
 
 // Writes the reason that two ranges give.
-fn put_spans(out: &mut [u8], at: usize, spans: Spans) -> usize
-    requires { ⌜ at < 2 ^ 60 ⌝ }
-    ensures { λ r. ⌜ Put (now (out .entry)) at (reasonText (Reason.Separate spans)) 106 (now (out .exit)) r ⌝ }
+fn put_spans(out: &mut [u8], at: usize, top: u64, spans: Spans) -> usize
+    requires { ⌜ at < 2 ^ 59 ⌝ }
+    ensures { λ r. ⌜ Put (now (out .entry)) at (reasonText (top + 1) (Reason.Separate spans)) 194 (now (out .exit)) r ⌝ }
 {
-    let next = put_ranged(out, at, b"separate ranges, ", spans.store);
-    put_ranged(out, next, b" and ", spans.read)
+    let next = put_ranged(out, at, b"separate ranges, ", top, spans.store);
+    put_ranged(out, next, b" and ", top, spans.read)
 }
 
 // Writes a reason.
-pub fn put_reason(out: &mut [u8], at: usize, why: Reason) -> usize
-    requires { ⌜ at < 2 ^ 60 ⌝ }
-    ensures { λ r. ⌜ Put (now (out .entry)) at (reasonText why) 106 (now (out .exit)) r ⌝ }
+pub fn put_reason(out: &mut [u8], at: usize, top: u64, why: Reason) -> usize
+    requires { ⌜ at < 2 ^ 59 ⌝ }
+    ensures { λ r. ⌜ Put (now (out .entry)) at (reasonText (top + 1) why) 194 (now (out .exit)) r ⌝ }
 {
     match why {
         Reason::SamePlace => put_word(out, at, b"same place"),
         Reason::Offsets(p, q) => put_offsets(out, at, p, q),
-        Reason::Separate(spans) => put_spans(out, at, spans),
+        Reason::Separate(spans) => put_spans(out, at, top, spans),
         Reason::Undecided => put_word(out, at, b"undecided"),
     }
 }
@@ -118,23 +133,23 @@ fn put_indexes(
 }
 
 // Writes a reason, as the end of a line.
-fn put_why(out: &mut [u8], at: usize, why: Reason) -> usize
+fn put_why(out: &mut [u8], at: usize, top: u64, why: Reason) -> usize
     requires { ⌜ at < 2 ^ 33 ⌝ }
-    ensures { λ r. ⌜ Put (now (out .entry)) at (ascii ", " ++ reasonText why ++ ascii "\n") 109 (now (out .exit)) r ⌝ }
+    ensures { λ r. ⌜ Put (now (out .entry)) at (ascii ", " ++ reasonText (top + 1) why ++ ascii "\n") 197 (now (out .exit)) r ⌝ }
 {
     let next = put_word(out, at, b", ");
-    let end = put_reason(out, next, why);
+    let end = put_reason(out, next, top, why);
     put_byte(out, end, b'\n')
 }
 
 // Writes the line of a store that was recorded at instruction `source` and compared with index row i.
-pub fn put_store(out: &mut [u8], at: usize, source: u64, i: usize, s: Met) -> usize
-    requires { ⌜ at < 2 ^ 32 ⌝ }
-    ensures { λ r. ⌜ Put (now (out .entry)) at (storeLine source i s) 256 (now (out .exit)) r ⌝ }
+pub fn put_store(out: &mut [u8], at: usize, top: u64, source: u64, i: usize, s: Met) -> usize
+    requires { ⌜ at < 2 ^ 32 ⌝ ∗ ⌜ Numbered source i s ⌝ }
+    ensures { λ r. ⌜ Put (now (out .entry)) at (storeLine (top + 1) source i s) 256 (now (out .exit)) r ⌝ }
 {
     let why = s.why;
     let next = put_indexes(out, at, source, s.store, s.index, i);
-    put_why(out, next, why)
+    put_why(out, next, top, why)
 }
 
 // Writes that the walk found the element in row c.

@@ -3,7 +3,7 @@
 -- (M is 2 ^ w), every limit. `Choices` has that every well-formed table has a permitted choice.
 use Prim.Native.Nat.{ℕ, _<_}
 use mathlib.Core.Path.{_≡_, sym, ap, _∙_, subst}
-use Rattle.range.specs.Range.{Within}
+use Rattle.range.specs.Range.{Within, Proper}
 use Rattle.term.specs.Term.{Term, statedBy}
 use Rattle.term.specs.declared.Relation.the-variants.{Same, Apart}
 use Rattle.term.specs.Seen.{seen}
@@ -18,7 +18,7 @@ use Rattle.term.proofs.Seen.{seen-own, seen-states}
 use Rattle.term.proofs.WellFormed.{formed-below, result-states}
 use Rattle.meaning.specs.Meaning.{Choice, Permitted, Meaning, meaningBy, meaning, value, content}
 use Rattle.meaning.proofs.Model.{Bounds, Model}
-use Rattle.meaning.proofs.Relations.{Says, range-in, related-says}
+use Rattle.meaning.proofs.Relations.{Says, range-in, range-fine, related-says}
 use Rattle.meaning.proofs.Reasons.{Explains, reason-explains, step-explains}
 use Rattle.meaning.proofs.RuleGood.{result-model}
 use Rattle.meaning.proofs.Meanings.{meaning-only, meaning-words, meaning-model}
@@ -68,6 +68,10 @@ module _ (M limit : ℕ) (pos : 0 < M) (t : ℕ → Term) (formed : WellFormed M
   -- a result row's range holds its original's value
   pub run-range-in : (x : ℕ) → Within (value M choice t x) (rangeOf M (result M limit t) x)
   run-range-in = range-in M choice (result M limit t) (meaning M choice t) model
+
+  -- and is one piece, or two in order that do not touch, of words
+  pub run-range-proper : (x : ℕ) → Proper M (rangeOf M (result M limit t) x)
+  run-range-proper = range-fine M choice (result M limit t) (meaning M choice t) model
 
   -- same: the originals are equal; apart: they differ
   pub compare-says : (x y : ℕ)

@@ -1,106 +1,110 @@
--- What other crates know of ranges. No statement here shows the ends of a range. Assumes nothing.
-use mathlib.Core.Path.{_≡_, refl, sym, ap, ap₂, _∙_}
-use mathlib.Core.Bool.{true, false, _&&_}
-use Prim.Native.Nat.{ℕ, _+_, _-_, _%_, _≤_, _<_}
-use native.Mathlib.Nat.{mod-lt, mod-eq-of-lt}
+-- What other crates know of sums, negations and numbers that are shared. No statement here shows the ends of a range. Assumes nothing.
+use mathlib.Core.Path.{_≡_, sym, _∙_}
+use mathlib.Core.Logic.{_⊎_, inl, inr, ⊎-elim, dite}
+use mathlib.Core.Bool.{true, false, not, true≢false}
+use Prim.Native.Nat.{ℕ, _-_, _≤_, _<_}
+use native.Mathlib.Decide.{decLe}
 use native.Mathlib.Omega.{arith}
-use borrow.Author.Tests.{ltb-true, ltb-false, leb-true, leb-false, eqb-true, lt-ltb}
-use lib.Dec.{ltb, leb, eqb}
-use Rattle.basis.proofs.Pick.{pick-case, and-right, or-case}
+use borrow.Author.Tests.{not-true, not-false}
+use Rattle.basis.proofs.Pick.{and-left, and-right, and-case}
 use Rattle.word.specs.Word.{plus, minus}
-use Rattle.word.proofs.Congruence.{cong, is-mod}
-use Rattle.word.proofs.Words.{minus-below, minus-only, minus-self}
 use Rattle.range.specs.declared.Range.{Range}
-use Rattle.range.specs.Range.{span, point, full, sum, negation, disjoint, Within, Proper}
+use Rattle.range.specs.Range.{sum, negation, has, disjoint, Within, Proper}
+use Rattle.range.proofs.Spans.{Place, single, lower, upper, placed, within}
+use Rattle.range.proofs.Circle.{some-word, Split}
+use Rattle.range.proofs.Sums.{stretch-proper, stretch-has, stretch-split, sum-is}
+use Rattle.range.proofs.Negations.{mirrored-proper, mirrored-has, mirrored-from, negation-is}
 
-ruleset tests = (arith, ltb-true, ltb-false, leb-true, leb-false, eqb-true)
+-- ---- members are kept, and of a sum or a negation nothing is added
 
--- ---- members are kept
+module _ (M : ℕ) (a b : Range) (p : Proper M a) (q : Proper M b) where
+  pub sum-within : (x y : ℕ) → x < M → y < M → Within x a → Within y b → Within (plus M x y) (sum M a b)
+  sum-within x y l m u v =
+      let pos = some-word M a p in
+      rw (sum-is M pos a b p q) (stretch-has M pos a b p q x y l m u v)
 
-pub point-within : (k : ℕ) → Within k (point k)
-unfolding point span
-point-within k = omega arith
+  -- a number of a sum is the sum of a number of each
+  pub sum-exact : (x : ℕ) → x < M → Within x (sum M a b) → Split M a b x
+  sum-exact x word u =
+      let pos = some-word M a p in
+      stretch-split M pos a b p q x word (rw (sum-is M pos a b p q) at u)
 
-pub span-within : (k h x : ℕ) → k ≤ x → x ≤ h → Within x (span k h)
-unfolding span
-span-within k h x l m = omega arith
+module _ (M : ℕ) (a : Range) (p : Proper M a) where
+  pub negation-within : (x : ℕ) → x < M → Within x a → Within (minus M 0 x) (negation M a)
+  negation-within x l u =
+      let pos = some-word M a p in
+      rw (negation-is M pos a p) (mirrored-has M pos a p x l u)
 
-pub full-within : (M x : ℕ) → x < M → Within x (full M)
-unfolding full span
-full-within M x l = omega arith
-
-pub sum-within :
-    (M : ℕ) (a b : Range) (x y : ℕ) → x < M → y < M → Within x a → Within y b → Within (plus M x y) (sum M a b)
-unfolding plus sum span full
-sum-within M a b x y p q u v =
-    pick-case (Within ((x + y) % M)) (ltb (a .hi + b .hi) M)
-    (λ (t : ltb (a .hi + b .hi) M ≡ true).
-    let e : x + y ≡ (x + y) % M = is-mod M 0 0 (x + y) (x + y) (omega tests) refl in omega tests)
-    (λ (t : ltb (a .hi + b .hi) M ≡ false).
-    pick-case (Within ((x + y) % M)) (leb M (a .lo + b .lo))
-    (λ (s : leb M (a .lo + b .lo) ≡ true).
-    let e : x + y - M ≡ (x + y) % M = is-mod M 1 0 (x + y - M) (x + y) (omega tests) (omega tests) in omega tests)
-    (λ (s : leb M (a .lo + b .lo) ≡ false). full-within M ((x + y) % M) (mod-lt (x + y) (omega arith))))
-
-pub negation-within : (M : ℕ) (a : Range) (x : ℕ) → x < M → Within x a → Within (minus M 0 x) (negation M a)
-unfolding negation span
-negation-within M a x p u =
-    let pos : 0 < M = omega arith in
-    pick-case (Within (minus M 0 x)) (eqb (a .lo) 0 && eqb (a .hi) 0)
-    (λ (t : (eqb (a .lo) 0 && eqb (a .hi) 0) ≡ true).
-    let top : a .hi ≡ 0 = eqb-true (a .hi) 0 (and-right (eqb (a .lo) 0) (eqb (a .hi) 0) t) in
-    let e : minus M 0 x ≡ 0 = ap (minus M 0) (omega arith) ∙ minus-self M pos 0 in omega arith)
-    (λ (t : (eqb (a .lo) 0 && eqb (a .hi) 0) ≡ false).
-    pick-case (Within (minus M 0 x)) (ltb 0 (a .lo))
-    (λ (s : ltb 0 (a .lo) ≡ true).
-    let e : M - x ≡ minus M 0 x =
-    sym (mod-eq-of-lt (omega tests)) ∙ minus-only M pos 0 x (M - x) (cong M 0 1 (M - x + x) 0 (omega arith)) in
-    omega tests)
-    (λ (s : ltb 0 (a .lo) ≡ false). full-within M (minus M 0 x) (minus-below M pos 0 x)))
+  -- a number of a negation is the negation of a number
+  pub negation-exact : (x : ℕ) → x < M → Within x (negation M a) → Within (minus M 0 x) a
+  negation-exact x word u =
+      let pos = some-word M a p in
+      mirrored-from M pos a p x word (rw (negation-is M pos a p) at u)
 
 -- ---- ranges of words below M stay such
 
-pub point-proper : (M k : ℕ) → k < M → Proper M (point k)
-unfolding point span
-point-proper M k l = omega arith
-
-pub span-proper : (M k h : ℕ) → k ≤ h → h < M → Proper M (span k h)
-unfolding span
-span-proper M k h o l = omega arith
-
-pub full-proper : (M : ℕ) → 0 < M → Proper M (full M)
-unfolding full span
-full-proper M l = omega arith
-
 pub sum-proper : (M : ℕ) (a b : Range) → Proper M a → Proper M b → Proper M (sum M a b)
-unfolding sum span
 sum-proper M a b p q =
-    pick-case (Proper M) (ltb (a .hi + b .hi) M)
-    (λ (t : ltb (a .hi + b .hi) M ≡ true). omega tests)
-    (λ (t : ltb (a .hi + b .hi) M ≡ false).
-    pick-case (Proper M) (leb M (a .lo + b .lo))
-    (λ (s : leb M (a .lo + b .lo) ≡ true). omega tests)
-    (λ (s : leb M (a .lo + b .lo) ≡ false). full-proper M (omega arith)))
+    let pos = some-word M a p in
+    rw (sum-is M pos a b p q) (stretch-proper M pos a b p q)
 
 pub negation-proper : (M : ℕ) (a : Range) → Proper M a → Proper M (negation M a)
-unfolding negation span
 negation-proper M a p =
-    pick-case (Proper M) (eqb (a .lo) 0 && eqb (a .hi) 0)
-    (λ (t : (eqb (a .lo) 0 && eqb (a .hi) 0) ≡ true). omega arith)
-    (λ (t : (eqb (a .lo) 0 && eqb (a .hi) 0) ≡ false).
-    pick-case (Proper M) (ltb 0 (a .lo))
-    (λ (s : ltb 0 (a .lo) ≡ true). omega tests)
-    (λ (s : ltb 0 (a .lo) ≡ false). full-proper M (omega arith)))
+    let pos = some-word M a p in
+    rw (negation-is M pos a p) (mirrored-proper M pos a p)
 
--- ---- what else a caller may conclude
+-- ---- disjoint exactly when no number is shared
+
+-- a range has its own lower end
+pub start-within : (a : Range) → Within (a .lo) a
+start-within a =
+    within a (a .lo)
+    (dite (decLe (a .lo) (a .hi))
+    (λ (l : a .lo ≤ a .hi). single (omega arith) l)
+    (λ (l : a .lo ≤ a .hi → ⊥). upper (omega arith) (omega arith)))
+
+-- of two ranges that share a number one has the lower end of the other
+shared-start : (a b : Range) (x : ℕ) → Place x a → Place x b → Within (b .lo) a ⊎ Within (a .lo) b
+shared-start a b x u v =
+    dite (decLe (a .lo) (b .lo))
+    (λ (l : a .lo ≤ b .lo). from-below u v l)
+    (λ (l : a .lo ≤ b .lo → ⊥). from-above u v (omega arith))
+  where
+    from-below : Place x a → Place x b → a .lo ≤ b .lo → Within (b .lo) a ⊎ Within (a .lo) b
+    from-below (single k m) (single i n) l = inl (within a (b .lo) (single l (omega arith)))
+    from-below (single k m) (lower two n) l = inr (within b (a .lo) (lower two (omega arith)))
+    from-below (single k m) (upper two n) l = inl (within a (b .lo) (single l (omega arith)))
+    from-below (lower two m) v l = inl (within a (b .lo) (upper two l))
+    from-below (upper two m) v l = inl (within a (b .lo) (upper two l))
+
+    from-above : Place x a → Place x b → b .lo ≤ a .lo → Within (b .lo) a ⊎ Within (a .lo) b
+    from-above (single k m) (single i n) l = inr (within b (a .lo) (single l (omega arith)))
+    from-above (lower two m) (single i n) l = inl (within a (b .lo) (lower two (omega arith)))
+    from-above (upper two m) (single i n) l = inr (within b (a .lo) (single l (omega arith)))
+    from-above u (lower two n) l = inr (within b (a .lo) (upper two l))
+    from-above u (upper two n) l = inr (within b (a .lo) (upper two l))
 
 pub disjoint-shares-none : (a b : Range) (x : ℕ) → disjoint a b ≡ true → Within x a → Within x b → ⊥
 unfolding disjoint
 disjoint-shares-none a b x d u v =
-    or-case (ltb (a .hi) (b .lo)) (ltb (b .hi) (a .lo)) d
-    (λ (t : ltb (a .hi) (b .lo) ≡ true). omega tests)
-    (λ (t : ltb (b .hi) (a .lo) ≡ true). omega tests)
+    let none = not-true (has a (b .lo)) (and-left (not (has a (b .lo))) (not (has b (a .lo))) d) in
+    let also = not-true (has b (a .lo)) (and-right (not (has a (b .lo))) (not (has b (a .lo))) d) in
+    ⊎-elim
+    (λ (h : Within (b .lo) a). true≢false (sym h ∙ none))
+    (λ (h : Within (a .lo) b). true≢false (sym h ∙ also))
+    (shared-start a b x (placed a x u) (placed b x v))
 
-pub sum-zero : (M : ℕ) (a : Range) → Proper M a → sum M a (point 0) ≡ a
-unfolding sum point span
-sum-zero M a p = rw (lt-ltb (a .hi + 0) M (omega arith)) (ap₂ span (omega arith) (omega arith))
+-- a word that both have
+pub record Common (M : ℕ) (a b : Range) : Type 0 where
+  pub number : ℕ
+  pub word : number < M
+  pub left : Within number a
+  pub right : Within number b
+
+-- no claim is left out: ranges that are not found disjoint share a word
+pub else-shared : (M : ℕ) (a b : Range) → Proper M a → Proper M b → disjoint a b ≡ false → Common M a b
+unfolding disjoint
+else-shared M a b p q d =
+    and-case (not (has a (b .lo))) (not (has b (a .lo))) d
+    (λ e. record { number = b .lo; word = q .low; left = not-false (has a (b .lo)) e; right = start-within b })
+    (λ e. record { number = a .lo; word = p .low; left = start-within a; right = not-false (has b (a .lo)) e })

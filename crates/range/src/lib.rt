@@ -1,8 +1,9 @@
-// A range of words: all from lo to hi. By value; the flat store keeps one for each row.
+// A range of words: all from lo to hi; or, where hi is below lo, the two pieces from 0 to hi and from lo to the top of the word. By value; the flat store keeps one
+// for each row.
 ghost use mathlib.Core.Path.{_≡_};
 ghost use Prim.Native.Nat.{_-_, _^_, _≤_};
-ghost use lib.Dec.{leb};
-ghost use Rattle.range.specs.Range.{span, point, full, sum, negation, disjoint, Proper};
+ghost use Rattle.word.specs.Word.{minus};
+ghost use Rattle.range.specs.Range.{span, point, full, isTwo, sum, negation, has, disjoint, Proper};
 
 mod store;
 
@@ -41,13 +42,22 @@ impl Range {
         }
     }
 
-    // a + b. The ends wrap alike, both or neither; where only the upper one does, the sum straddles the top.
+    // Whether it has two pieces.
+    pub fn is_two(a: Range) -> bool
+        ensures { λ r. ⌜ r ≡ isTwo a ⌝ }
+    {
+        a.hi < a.lo
+    }
+
+    // a + b: from the sum of the lower ends to that of the upper ones. Where that is all the way round, every word.
     pub fn sum(w: u32, a: Range, b: Range) -> Range
         requires { ⌜ w ≤ 64 ⌝ ∗ ⌜ Proper (2 ^ w) a ⌝ ∗ ⌜ Proper (2 ^ w) b ⌝ }
         ensures { λ r. ⌜ r ≡ sum (2 ^ w) a b ⌝ }
     {
         let top = word::top(w);
-        if sum_fits(top, a.lo, b.lo) != sum_fits(top, a.hi, b.hi) {
+        let x = size(w, top, a);
+        let y = size(w, top, b);
+        if x >= top - y {
             return Range { lo: 0, hi: top };
         }
         Range {
@@ -56,39 +66,44 @@ impl Range {
         }
     }
 
-    // - a. An upper end of 0 leaves no other lower end.
+    // - a: from the negation of the upper end to that of the lower one. Every word stays every word.
     pub fn negation(w: u32, a: Range) -> Range
         requires { ⌜ w ≤ 64 ⌝ ∗ ⌜ Proper (2 ^ w) a ⌝ }
         ensures { λ r. ⌜ r ≡ negation (2 ^ w) a ⌝ }
     {
-        if a.hi == 0 {
-            return Range { lo: 0, hi: 0 };
-        }
         let top = word::top(w);
-        if a.lo > 0 {
-            return Range {
-                lo: top - a.hi + 1,
-                hi: top - a.lo + 1,
-            };
+        if size(w, top, a) >= top {
+            return Range { lo: 0, hi: top };
         }
-        Range { lo: 0, hi: top }
+        Range {
+            lo: std::num::wrapping_sub_u64(0, a.hi) & top,
+            hi: std::num::wrapping_sub_u64(0, a.lo) & top,
+        }
     }
 
-    // Whether a and b share no number.
+    // Whether a and b share no number: neither has the lower end of the other.
     pub fn disjoint(a: Range, b: Range) -> bool
         ensures { λ r. ⌜ r ≡ disjoint a b ⌝ }
     {
-        if a.hi < b.lo {
-            return true;
+        if reaches(a.lo, a.hi, b.lo) {
+            return false;
         }
-        b.hi < a.lo
+        !reaches(b.lo, b.hi, a.lo)
     }
 }
 
-// Whether x + y is at most top, as whole numbers: no sum is taken, so that it is right at 64 bits too.
-fn sum_fits(top: u64, x: u64, y: u64) -> bool
-    requires { ⌜ y ≤ top ⌝ }
-    ensures { λ r. ⌜ r ≡ leb x (top - y) ⌝ }
+// How far it is from the lower end up to the upper one, over the top where there are two pieces: one less than the numbers of a.
+fn size(w: u32, top: u64, a: Range) -> u64
+    requires { ⌜ w ≤ 64 ⌝ ∗ ⌜ top ≡ 2 ^ w - 1 ⌝ }
+    ensures { λ r. ⌜ r ≡ minus (2 ^ w) (a .hi) (a .lo) ⌝ }
 {
-    x <= top - y
+    std::num::wrapping_sub_u64(a.hi, a.lo) & top
+}
+
+// Whether x is no further up from lo than hi is. That is counted modulo 2^64 at every width: a range of two pieces then goes on over numbers that are no words,
+// and x is a word.
+fn reaches(lo: u64, hi: u64, x: u64) -> bool
+    ensures { λ r. ⌜ r ≡ has (span lo hi) x ⌝ }
+{
+    std::num::wrapping_sub_u64(x, lo) <= std::num::wrapping_sub_u64(hi, lo)
 }

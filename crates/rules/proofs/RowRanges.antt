@@ -7,7 +7,8 @@ use Rattle.range.specs.declared.Range.{Range}
 use Rattle.range.specs.Range.{span, point, full, negation, Proper}
 use Rattle.range.specs.Range as range
 use Rattle.range.specs.Store.{kept}
-use Rattle.range.proofs.Laws.{point-proper, span-proper, full-proper, sum-proper, negation-proper}
+use Rattle.range.proofs.Spans.{point-proper, span-proper, full-proper}
+use Rattle.range.proofs.Laws.{sum-proper, negation-proper}
 use Rattle.row.specs.declared.Row.{Row}
 use Rattle.row.specs.Names.{CONST, VAR, SHIFT, SUM, DIFF, NEG, READ, FRESH, WRITE}
 use Rattle.table.specs.Refusals.{MOST}

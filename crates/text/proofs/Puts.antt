@@ -26,6 +26,10 @@ put-then {l} {m} {n} {xs} {ys} {at} first second cap = record {
 pub put-capped : {l text m : List ℕ} {at r i k : ℕ} → Put l at text i m r → i ≤ k → Put l at text k m r
 put-capped done cap = record { written = done .written; next = done .next; few = omega arith }
 
+-- so will any that holds the text, however it was written
+pub put-within : {l text m : List ℕ} {at r i k : ℕ} → Put l at text i m r → length text ≤ k → Put l at text k m r
+put-within done cap = record { written = done .written; next = done .next; few = omega (arith, done .next) }
+
 pub put-length : {l text m : List ℕ} {at most r : ℕ} → Put l at text most m r → length m ≡ length l
 put-length {l} {text} {at = at} p = rw (p .written) (length-sets l at text)
 

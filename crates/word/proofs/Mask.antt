@@ -47,6 +47,10 @@ pub wrapped-difference : (w x y s r : ℕ) → w ≤ 64 → (s + y) % 2 ^ 64 ≡
 wrapped-difference w x y s r h e f =
     f ∙ minus-only (2 ^ w) (pow-pos w) x y s (sym (reduced-twice w (s + y) h) ∙ ap (λ (n : ℕ). n % 2 ^ w) e)
 
+-- the same, where the mask is the largest word
+pub masked-difference : (w x y s top : ℕ) → w ≤ 64 → top ≡ 2 ^ w - 1 → (s + y) % 2 ^ 64 ≡ x → bitAnd s top ≡ minus (2 ^ w) x y
+masked-difference w x y s top h t e = wrapped-difference w x y s (bitAnd s top) h e (rw t (and-mask s w))
+
 pub none-too-large : (w v : ℕ) → w ≡ 64 → v < 2 ^ 64 → false ≡ leb (2 ^ w) v
 none-too-large w v e h = rw e (sym (lt-leb (2 ^ 64) v h))
 

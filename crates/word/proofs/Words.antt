@@ -2,7 +2,7 @@
 -- `simp differences` brings an identity's sides to that form, and `same-difference` with `omega arith` closes it.
 -- Assumes nothing.
 use mathlib.Core.Path.{_≡_, sym, ap, _∙_}
-use Prim.Native.Nat.{ℕ, suc, _+_, _-_, _/_, _%_, _<_}
+use Prim.Native.Nat.{ℕ, suc, _+_, _-_, _/_, _%_, _≤_, _<_}
 use native.Mathlib.Nat.{mod-lt, mod-eq-of-lt, div-add-mod'}
 use native.Mathlib.Omega.{arith}
 use Rattle.word.specs.Word.{plus, minus}
@@ -97,3 +97,10 @@ module _ (M : ℕ) (pos : 0 < M) where
 
   pub minus-twice : (x : ℕ) → x < M → minus M 0 (minus M 0 x) ≡ x
   minus-twice x below = simp differences (same-difference M pos _ _ _ _ (omega arith) ∙ sym (word-is M pos x below))
+
+  -- how far up it is from y to x
+  pub minus-up : (x y : ℕ) → y ≤ x → x < M → minus M x y ≡ x - y
+  minus-up x y l m = sym (minus-only M pos x y (x - y) (cong M 0 0 (x - y + y) x (omega arith))) ∙ mod-eq-of-lt (omega arith)
+
+  pub minus-over : (x y : ℕ) → x < y → y < M → minus M x y ≡ x + M - y
+  minus-over x y l m = sym (minus-only M pos x y (x + M - y) (cong M 0 1 (x + M - y + y) x (omega arith))) ∙ mod-eq-of-lt (omega arith)

@@ -5,13 +5,14 @@ use crate::edited::Edited;
 use crate::meaning::{decoded, World};
 use crate::pair::{hex, Pair};
 use crate::replacement::replacement;
-use crate::{names, sources, walks};
+use crate::{names, pieces, sources, walks};
 use second::bytes::table_bytes;
 use second::{Ref, Relation, Row, Sort, Width};
+use tables::machine::Stack;
 use tables::random::Random;
 use tables::sources::numbered;
 use tables::wellformed::{rows_of_sorts, Place, Taste};
-use tables::{chain, machine, wellformed};
+use tables::{chain, crossing, machine, wellformed};
 
 /// Evaluation walks arrays step by step, so it is left to small tables.
 pub const MOST_ROWS_EVALUATED: usize = 64;
@@ -41,6 +42,7 @@ pub fn cases(pair: &mut Pair, number: u64) {
     sources::cases(pair, random, &table, &result);
     walks::cases(pair, random, &table);
     names::cases(pair, random, number);
+    pieces::generated(pair, random);
 }
 
 /// Most tables are small; every size up to 1,024 has its turn.
@@ -57,7 +59,7 @@ fn size(random: &mut Random, number: u64) -> usize {
 /// The rows of table `number`.
 pub fn some_rows(random: &mut Random, width: Width, number: u64) -> Vec<Row> {
     let count = size(random, number);
-    match random.below(10) {
+    match random.below(13) {
         0 => chain::rows(width, count),
         1..=4 => {
             let habits = machine::Habits {
@@ -65,10 +67,11 @@ pub fn some_rows(random: &mut Random, width: Width, number: u64) -> Vec<Row> {
                 pointers_one_in: random.pick(&[0, 4, 12, 40]),
                 re_entries_one_in: random.pick(&[0, 2, 6, 20]),
                 names: random.pick(&[[0, 0], [1, 2], [3, 259], [65_535, 0]]),
-                careless: random.one_in(3),
+                stack: random.pick(&[Stack::High, Stack::High, Stack::AtZero, Stack::Anywhere]),
             };
             machine::rows(random, width, count, habits)
         }
+        5..=7 => crossing::rows(random, width, count),
         _ => wellformed::rows(random, width, count),
     }
 }
@@ -88,7 +91,7 @@ pub fn keeps_meaning(pair: &mut Pair, random: &mut Random, table: &[u8], result:
     }
 }
 
-fn comparisons(pair: &mut Pair, random: &mut Random, table: &[u8]) {
+pub fn comparisons(pair: &mut Pair, random: &mut Random, table: &[u8]) {
     let (width, rows) = decoded(table);
     let words: Vec<Ref> = (0..rows.len()).filter(|row| rows[*row].sort() == Sort::Word).collect();
     for _ in 0..4 {
@@ -121,7 +124,7 @@ fn comparisons(pair: &mut Pair, random: &mut Random, table: &[u8]) {
 }
 
 /// A chain of edits with the table's own kept result.
-fn own_edits(pair: &mut Pair, random: &mut Random, mut table: Vec<u8>, mut kept: Vec<u8>) {
+pub fn own_edits(pair: &mut Pair, random: &mut Random, mut table: Vec<u8>, mut kept: Vec<u8>) {
     let behind = if random.one_in(4) { 1 + random.below(60) } else { 0 };
     kept.extend(random.bytes(behind));
     for _ in 0..random.pick(&[2, 4, 8]) {

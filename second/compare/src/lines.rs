@@ -7,14 +7,19 @@ pub enum Reason {
     SamePlace,
     SharedBase,
     SeparateRanges,
+    StoreInTwoPieces,
+    ReadInTwoPieces,
     Undecided,
 }
 
-/// With `#` for each number.
-pub const REASONS: [(Reason, &str); 4] = [
+/// With `#` for each number. Every range of two pieces that a row has holds 0 and 2^w - 1, so two of
+/// them are never separate.
+pub const REASONS: [(Reason, &str); 6] = [
     (Reason::SamePlace, "same place"),
     (Reason::SharedBase, "different offsets on a shared base, # and #"),
     (Reason::SeparateRanges, "separate ranges, #..# and #..#"),
+    (Reason::StoreInTwoPieces, "separate ranges, #..#, #..# and #..#"),
+    (Reason::ReadInTwoPieces, "separate ranges, #..# and #..#, #..#"),
     (Reason::Undecided, "undecided"),
 ];
 
@@ -54,15 +59,28 @@ impl Store {
         match (self.reason, &self.says[..]) {
             (Reason::SamePlace, []) => store == read,
             (Reason::SharedBase, [p, q]) => p != q && width.sub(read, store) == width.sub(*q, *p),
-            (Reason::SeparateRanges, [low, high, other_low, other_high]) => {
-                (low..=high).contains(&&store)
-                    && (other_low..=other_high).contains(&&read)
-                    && (high < other_low || other_high < low)
+            (Reason::StoreInTwoPieces, says) => separate(says.split_at(4), [store, read]),
+            (Reason::SeparateRanges | Reason::ReadInTwoPieces, says) => {
+                separate(says.split_at(2), [store, read])
             }
             (Reason::Undecided, []) => true,
             _ => false,
         }
     }
+}
+
+/// Whether two ranges, each given by the ends of its pieces, hold these words and share none. The
+/// ends of two pieces are in order and leave a word between them.
+fn separate((one, other): (&[u64], &[u64]), words: [u64; 2]) -> bool {
+    let in_order = |ends: &[u64]| ends.windows(2).all(|pair| pair[0] <= pair[1]);
+    let parted = |ends: &[u64]| ends.len() == 2 || ends[2] - ends[1] > 1;
+    let has = |piece: &[u64], word: u64| piece[0] <= word && word <= piece[1];
+    let right = |(ends, word): (&[u64], u64)| {
+        in_order(ends) && parted(ends) && ends.chunks(2).any(|piece| has(piece, word))
+    };
+    let apart = |piece: &[u64], another: &[u64]| piece[1] < another[0] || another[1] < piece[0];
+    [one, other].into_iter().zip(words).all(right)
+        && one.chunks(2).all(|piece| other.chunks(2).all(|another| apart(piece, another)))
 }
 
 pub struct List {
@@ -87,8 +105,7 @@ impl List {
         let instructions = [read.numbers[0], result.numbers[7]];
         let read = read.numbers[1] as Ref;
         let stores: Vec<Store> = stores.iter().map(Store::of).collect::<Option<_>>()?;
-        let passed =
-            |store: &Store| matches!(store.reason, Reason::SharedBase | Reason::SeparateRanges);
+        let passed = |store: &Store| !matches!(store.reason, Reason::SamePlace | Reason::Undecided);
         let last = stores.iter().position(|store| !passed(store));
         if last.is_some_and(|last| last + 1 != stores.len()) {
             return None;
@@ -112,6 +129,14 @@ impl List {
     /// Whether all that is said of the stores is true where the rows mean `words`.
     pub fn true_of(&self, width: Width, words: &[u64]) -> bool {
         self.stores.iter().all(|store| store.true_of(width, words))
+    }
+
+    /// How many stores were passed by a range of two pieces.
+    pub fn passed_by_pieces(&self) -> u64 {
+        let by_pieces = |store: &&Store| {
+            matches!(store.reason, Reason::StoreInTwoPieces | Reason::ReadInTwoPieces)
+        };
+        self.stores.iter().filter(by_pieces).count() as u64
     }
 
     pub fn most_bytes(&self) -> usize {

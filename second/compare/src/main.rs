@@ -12,6 +12,7 @@ mod meaning;
 mod names;
 mod pair;
 mod paper;
+mod pieces;
 mod pipes;
 mod registers;
 mod replacement;
@@ -76,6 +77,7 @@ fn main() -> ExitCode {
     }
     paper::cases(&mut pair);
     walks::stated(&mut pair);
+    pieces::cases(&mut pair);
     registers::cases(&mut pair);
     every_byte::cases(&mut pair);
     for group in 0..wishes.groups {

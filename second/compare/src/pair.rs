@@ -118,7 +118,8 @@ impl Pair {
         let right = list.is_some() && after[length..] == before[length..];
         self.expect(right, || format!("a wrong list for row {row} of {}", hex(table)));
         if let Some(list) = list {
-            self.tally.add_list(&list);
+            let width = table[2];
+            self.tally.add_list(width, &list);
         }
     }
 

@@ -47,7 +47,7 @@ pub fn runs(pair: &mut Pair, table: &[u8], answer: Answer, result: Option<&[u8]>
 }
 
 /// Row `first` of the table against others.
-fn relates(pair: &mut Pair, text: &str, first: u64, others: &[(u64, Relation)]) {
+pub fn relates(pair: &mut Pair, text: &str, first: u64, others: &[(u64, Relation)]) {
     let table = table(text);
     for (second, relation) in others {
         let got = pair.compare(&table, &mut table.clone(), first, *second).relation;
@@ -83,22 +83,29 @@ fn p1_to_p4(pair: &mut Pair) {
     runs(pair, &empty, accepted(0, 0), Some(&empty));
 }
 
-/// P5 to P7, seen from outside: a row is apart from a CONST just outside its range.
+/// P2 and P5 to P7, seen from outside: a row is apart from a CONST just outside its range.
 fn ranges(pair: &mut Pair) {
     use Relation::{Apart, NotKnown};
+    let p2 = "width 8; VAR 0 250; SHIFT 0 248; CONST 0; CONST 242; CONST 243; CONST 247; \
+        CONST 248; CONST 255";
+    relates(pair, p2, 1, &[(2, NotKnown), (3, NotKnown), (4, Apart), (5, Apart)]);
+    relates(pair, p2, 1, &[(6, NotKnown), (7, NotKnown)]);
+
     let p5 = "width 8; VAR 0 254; SHIFT 0 1; VAR 0 255; SHIFT 2 1; CONST 0; CONST 1; CONST 255";
     relates(pair, p5, 1, &[(4, Apart), (5, NotKnown), (6, NotKnown)]);
     relates(pair, p5, 3, &[(4, NotKnown), (5, NotKnown), (6, NotKnown)]);
 
-    let p6 = "width 8; VAR 255 255; SHIFT 0 1; VAR 254 255; SHIFT 2 1; CONST 0; CONST 1";
+    let p6 = "width 8; VAR 255 255; SHIFT 0 1; VAR 254 255; SHIFT 2 1; CONST 0; CONST 1; \
+        CONST 254; CONST 255";
     relates(pair, p6, 1, &[(4, NotKnown), (5, Apart)]);
-    relates(pair, p6, 3, &[(4, NotKnown), (5, NotKnown)]);
+    relates(pair, p6, 3, &[(4, NotKnown), (5, Apart), (6, Apart), (7, NotKnown)]);
 
     let p7 = "width 8; VAR 0 0; NEG 0 0; VAR 1 5; NEG 2 0; VAR 0 5; NEG 4 0; \
-        CONST 0; CONST 250; CONST 251; CONST 255";
+        CONST 0; CONST 250; CONST 251; CONST 255; CONST 1";
     relates(pair, p7, 1, &[(6, NotKnown), (7, Apart), (9, Apart)]);
     relates(pair, p7, 3, &[(6, Apart), (7, Apart), (8, NotKnown), (9, NotKnown)]);
-    relates(pair, p7, 5, &[(6, NotKnown), (7, NotKnown), (8, NotKnown), (9, NotKnown)]);
+    relates(pair, p7, 5, &[(6, NotKnown), (7, Apart), (8, NotKnown), (9, NotKnown)]);
+    relates(pair, p7, 5, &[(10, Apart)]);
 }
 
 fn words_and_writes(pair: &mut Pair) {

@@ -3,9 +3,13 @@
 use crate::aims::{Aim, AIMS};
 use crate::lines::{List, ENDS, REASONS};
 use second::{Answer, Comparison, Event, Relation, Watch};
+use std::collections::BTreeMap;
 
 /// One more than the highest refusal.
 const REFUSALS: usize = 23;
+
+/// At width 1 there is no room for two pieces and a gap between them.
+const WIDTHS_IN_PIECES: [u8; 7] = [2, 3, 8, 16, 32, 63, 64];
 
 #[derive(Clone, Copy, PartialEq, Eq)]
 pub enum Call {
@@ -56,6 +60,8 @@ pub struct Tally {
     relations: [u64; 3],
     reasons: [u64; REASONS.len()],
     ends: [u64; ENDS.len()],
+    /// Stores listed as passed by a range of two pieces, for each width.
+    passed_by_pieces: BTreeMap<u8, u64>,
     aims: [u64; AIMS.len()],
     events: Vec<u64>,
 }
@@ -76,11 +82,12 @@ impl Tally {
         }
     }
 
-    pub fn add_list(&mut self, list: &List) {
+    pub fn add_list(&mut self, width: u8, list: &List) {
         for store in &list.stores {
             self.reasons[store.reason as usize] += 1;
         }
         self.ends[list.end as usize] += 1;
+        *self.passed_by_pieces.entry(width).or_default() += list.passed_by_pieces();
     }
 
     pub fn add_aim(&mut self, aim: Aim) {
@@ -114,6 +121,12 @@ impl Tally {
         println!("reasons listed, shares of {stores} stores compared");
         for (reason, form) in REASONS {
             line(form, self.reasons[reason as usize], stores);
+        }
+        let by_pieces = self.passed_by_pieces.values().sum();
+        println!("stores passed by a range of two pieces, shares of {by_pieces} at all widths");
+        for width in WIDTHS_IN_PIECES {
+            let passed = self.passed_by_pieces.get(&width).copied().unwrap_or(0);
+            line(&format!("width {width}"), passed, by_pieces);
         }
         let lists = self.ends.iter().sum();
         println!("ends listed, shares of {lists} lists");

@@ -121,7 +121,7 @@ pub fn stated(pair: &mut Pair) {
     refuses(pair, 7, 0, [22, 0], met.len());
 }
 
-fn lists(pair: &mut Pair, table: &[u8], row: u64, list: &str) {
+pub fn lists(pair: &mut Pair, table: &[u8], row: u64, list: &str) {
     let mut space = vec![0x5a; list.len() + 9];
     let listing = pair.why(table, &mut table.to_vec(), row, &mut space);
     let given = &space[..list.len()];

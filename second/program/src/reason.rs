@@ -46,6 +46,10 @@ impl fmt::Display for Reason {
 
 impl fmt::Display for Range {
     fn fmt(&self, f: &mut fmt::Formatter) -> fmt::Result {
-        write!(f, "{}..{}", self.low, self.high)
+        write!(f, "{}..{}", self.first.low, self.first.high)?;
+        match self.second {
+            Some(second) => write!(f, ", {}..{}", second.low, second.high),
+            None => Ok(()),
+        }
     }
 }

@@ -80,7 +80,8 @@ impl<'w, W: Watch> Simplifier<'w, W> {
         if ranges[0].shares_a_number(ranges[1]) {
             return Reason::Undecided;
         }
-        self.watch.saw(Event::ApartByRange);
+        let in_pieces = ranges.iter().any(|range| range.second.is_some());
+        self.watch.saw(if in_pieces { Event::ApartByPieces } else { Event::ApartByRange });
         Reason::SeparateRanges { ranges }
     }
 
@@ -230,7 +231,7 @@ impl<'w, W: Watch> Simplifier<'w, W> {
     fn range(&mut self, row: Row) -> Range {
         match row {
             Row::Const { k } => Range::only(k),
-            Row::Var { low, high, .. } => Range { low, high },
+            Row::Var { low, high, .. } => Range::of(low, high),
             Row::Read { .. } | Row::Fresh | Row::Write { .. } => Range::full(self.width),
             Row::Shift { a, k } => self.plus(self.ranges[a], Range::only(k)),
             Row::Sum { a, b, k } => {

@@ -2,6 +2,7 @@
 //! their instruction numbers.
 
 pub mod chain;
+pub mod crossing;
 pub mod machine;
 pub mod names;
 pub mod random;

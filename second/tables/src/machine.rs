@@ -13,8 +13,18 @@ pub struct Habits {
     pub re_entries_one_in: usize,
     /// The names of the stack and heap registers.
     pub names: [u16; 2],
-    /// Whether the stack's range may cross zero or meet the heap.
-    pub careless: bool,
+    pub stack: Stack,
+}
+
+/// Where the stack pointer begins.
+#[derive(Clone, Copy)]
+pub enum Stack {
+    /// Far from the heap and from zero.
+    High,
+    /// From 0 on, below the heap: calls move it down across zero.
+    AtZero,
+    /// Where it may cross zero or meet the heap.
+    Anywhere,
 }
 
 struct Machine<'r> {
@@ -62,11 +72,14 @@ impl Machine<'_> {
 
     fn live(&mut self, habits: Habits) -> Option<()> {
         let largest = self.width.largest();
-        let (mut low, mut high) = (largest - largest / 4, largest - largest / 8);
-        if habits.careless {
-            low = self.random.word(self.width);
-            high = low + self.random.from_to(0, (largest - low) / 4);
-        }
+        let (low, high) = match habits.stack {
+            Stack::High => (largest - largest / 4, largest - largest / 8),
+            Stack::AtZero => (0, largest / 16),
+            Stack::Anywhere => {
+                let low = self.random.word(self.width);
+                (low, low + self.random.from_to(0, (largest - low) / 4))
+            }
+        };
         let [stack, heap] = habits.names;
         self.registers.push(Row::Var { name: stack, low, high });
         if habits.heap {

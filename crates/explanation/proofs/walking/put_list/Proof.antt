@@ -1,5 +1,5 @@
 use borrow.Author.Needs.{needs}
-use Rattle.explanation.proofs.Lists.{list-index, list-walks, list-result, list-done}
+use Rattle.explanation.proofs.Lists.{list-header, list-index, list-walks, list-result, list-done}
 use Rattle.explanation.proofs.walking.put_list.Statement.{statement}
 use Rattle.explanation.proofs.walking.put_list.Tie as tie
 
@@ -15,6 +15,9 @@ put-read-requires c κs = search needs
 index-at-requires : tie.Need-index-at-requires
 index-at-requires c κs = search list-index
 
+top-of-requires : tie.Need-top-of-requires
+top-of-requires c κs = search list-header
+
 put-walk-requires : tie.Need-put-walk-requires
 put-walk-requires c κs = search list-walks
 
@@ -28,7 +31,7 @@ same-length : tie.Need-same-length
 same-length c = search needs
 
 returns : tie.Need-returns
-returns c = list-done _ _ _ _ _ (c .before .before .before .before .before .before .before .before .before .before .before .before .before .before .before .before .before .before .before .pre) (c .before .before .before .before .before .before .before .before .before .before .before .before .before .before .before .decode .ensures) (c .before .before .before .before .before .before .before .before .before .before .before .before .before .before .source-at .ensures) (c .before .before .before .before .before .before .before .before .before .before .before .before .put-read .ensures) (c .before .before .before .before .before .before .before .put-walk .ensures) (c .before .before .before .decode2 .ensures) (c .before .before .put-result .ensures)
+returns c = list-done _ _ _ _ _ (c .before .before .before .before .before .before .before .before .before .before .before .before .before .before .before .before .before .before .before .before .pre) (c .before .before .before .before .before .before .before .before .before .before .before .before .before .before .before .before .decode .ensures) (c .before .before .before .before .before .before .before .before .before .before .before .before .before .before .before .source-at .ensures) (c .before .before .before .before .before .before .before .before .before .before .before .before .before .put-read .ensures) _ (c .before .before .before .before .before .before .before .before .before .top-of .ensures) (c .before .before .before .before .before .before .before .put-walk .ensures) (c .before .before .before .decode2 .ensures) (c .before .before .put-result .ensures)
 
 pub put-list-spec : {M : Type 1} → statement M
 put-list-spec =
@@ -38,6 +41,7 @@ put-list-spec =
     source-at-requires
     put-read-requires
     index-at-requires
+    top-of-requires
     put-walk-requires
     decode-requires-2
     put-result-requires

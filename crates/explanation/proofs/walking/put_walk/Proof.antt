@@ -1,14 +1,14 @@
-use Prim.Native.Nat.{_-_}
+use Prim.Native.Nat.{_+_, _-_}
 use borrow.Author.Needs.{needs}
-use Rattle.explanation.proofs.Steps.{Told, tell-begins, tell-decodes, tell-sources, tell-near, tell-early, tell-length, tell-spent, tell-ends, tell-compares, tell-early-2, tell-length-2, tell-finds, tell-stops, tell-passes}
+use Rattle.explanation.proofs.Steps.{Told, tell-begins, tell-decodes, tell-sources, tell-near, tell-early, tell-length, tell-spent, tell-ends, tell-compares, tell-numbered, tell-early-2, tell-length-2, tell-finds, tell-stops, tell-passes}
 use Rattle.explanation.proofs.walking.put_walk.Statement.{statement}
 use Rattle.explanation.proofs.walking.put_walk.Tie as tie
 
 abbrev Inv-loop : tie.InvT-loop
-Inv-loop out₀ at table result store limit r i j m next₀ n₀ compared₀ out next n compared = Told table result store out₀ at limit i m r out next n compared
+Inv-loop out₀ at top table result store limit r i j m next₀ n₀ compared₀ out next n compared = Told (top + 1) table result store out₀ at limit i m r out next n compared
 
 abbrev μ-loop : tie.MeasureT-loop
-μ-loop out₀ at table result store limit r i j m next₀ n₀ compared₀ out next n compared = limit - compared
+μ-loop out₀ at top table result store limit r i j m next₀ n₀ compared₀ out next n compared = limit - compared
 
 loop-holds : tie.Need-loop-holds Inv-loop μ-loop
 loop-holds c = search tell-begins
@@ -32,7 +32,7 @@ source-at-requires : tie.Need-source-at-requires Inv-loop μ-loop
 source-at-requires c κs = search tell-sources
 
 put-store-requires : tie.Need-put-store-requires Inv-loop μ-loop
-put-store-requires c κs = search (tell-early, needs)
+put-store-requires c κs = search (tell-early, tell-numbered, needs)
 
 known-by-requires : tie.Need-known-by-requires Inv-loop μ-loop
 known-by-requires c κs = search needs

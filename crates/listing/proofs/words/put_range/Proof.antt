@@ -1,29 +1,49 @@
-use Rattle.listing.proofs.Written.{range-put}
+use Rattle.listing.proofs.Written.{two-put, one-put}
 use borrow.Author.Needs.{needs}
 use Rattle.listing.proofs.words.put_range.Statement.{statement}
 use Rattle.listing.proofs.words.put_range.Tie as tie
 
-put-decimal-requires : tie.Need-put-decimal-requires
-put-decimal-requires c κs = search needs
+is-two-requires : tie.Need-is-two-requires
+is-two-requires c κs = search needs
 
-slice-aggregate-put-labelled : tie.Need-slice-aggregate-put-labelled
-slice-aggregate-put-labelled c = search needs
+put-piece-requires : tie.Need-put-piece-requires
+put-piece-requires c κs = search needs
 
-put-labelled-requires : tie.Need-put-labelled-requires
-put-labelled-requires c κs = search needs
+slice-aggregate-put-word : tie.Need-slice-aggregate-put-word
+slice-aggregate-put-word c = search needs
+
+put-word-requires : tie.Need-put-word-requires
+put-word-requires c κs = search needs
+
+put-piece-requires-2 : tie.Need-put-piece-requires-2
+put-piece-requires-2 c κs = search needs
 
 same-length : tie.Need-same-length
 same-length c = search needs
 
 returns : tie.Need-returns
-returns c = search range-put
+returns c = search two-put
+
+put-piece-requires-3 : tie.Need-put-piece-requires-3
+put-piece-requires-3 c κs = search needs
+
+same-length-2 : tie.Need-same-length-2
+same-length-2 c = search needs
+
+returns-2 : tie.Need-returns-2
+returns-2 c = search one-put
 
 pub put-range-spec : {M : Type 1} → statement M
 put-range-spec =
     tie.close
     (tie.spec
-    put-decimal-requires
-    slice-aggregate-put-labelled
-    put-labelled-requires
+    is-two-requires
+    put-piece-requires
+    slice-aggregate-put-word
+    put-word-requires
+    put-piece-requires-2
     same-length
-    returns)
+    returns
+    put-piece-requires-3
+    same-length-2
+    returns-2)

@@ -1,32 +1,34 @@
 use borrow.Author.Needs.{needs}
 use Rattle.range.proofs.Range.negation.Statement.{statement}
 use Rattle.range.proofs.Range.negation.Tie as tie
-use Rattle.range.proofs.Branches.{negation-zero, negation-above, negation-straddles}
-
-returns : tie.Need-returns
-returns c = search negation-zero
+use Rattle.range.proofs.Made.{negation-round, negation-ends}
+use Rattle.word.proofs.Mask.{masked-difference}
 
 top-requires : tie.Need-top-requires
 top-requires c κs = search needs
 
-sub-t5 : tie.Need-sub-t5
-sub-t5 c = search needs
+size-requires : tie.Need-size-requires
+size-requires c κs = search needs
 
-add-t6 : tie.Need-add-t6
-add-t6 c = search needs
+returns : tie.Need-returns
+returns c = search negation-round
 
-sub-t7 : tie.Need-sub-t7
-sub-t7 c = search needs
+wrapping-sub-u64-requires : tie.Need-wrapping-sub-u64-requires
+wrapping-sub-u64-requires c κs = search needs
 
-add-t8 : tie.Need-add-t8
-add-t8 c = search needs
+wrapping-sub-u64-requires-2 : tie.Need-wrapping-sub-u64-requires-2
+wrapping-sub-u64-requires-2 c κs = search needs
 
 returns-2 : tie.Need-returns-2
-returns-2 c = search negation-above
-
-returns-3 : tie.Need-returns-3
-returns-3 c = search negation-straddles
+returns-2 c = search (negation-ends, masked-difference)
 
 pub negation-spec : {M : Type 1} → statement M
 negation-spec =
-    tie.close (tie.spec returns top-requires sub-t5 add-t6 sub-t7 add-t8 returns-2 returns-3)
+    tie.close
+    (tie.spec
+    top-requires
+    size-requires
+    returns
+    wrapping-sub-u64-requires
+    wrapping-sub-u64-requires-2
+    returns-2)

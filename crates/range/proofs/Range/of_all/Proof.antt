@@ -1,7 +1,7 @@
 use borrow.Author.Needs.{needs}
 use Rattle.range.proofs.Range.of_all.Statement.{statement}
 use Rattle.range.proofs.Range.of_all.Tie as tie
-use Rattle.range.proofs.Branches.{is-full}
+use Rattle.range.proofs.Made.{is-full}
 
 top-requires : tie.Need-top-requires
 top-requires c κs = search needs

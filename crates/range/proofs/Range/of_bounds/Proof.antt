@@ -1,6 +1,6 @@
 use Rattle.range.proofs.Range.of_bounds.Statement.{statement}
 use Rattle.range.proofs.Range.of_bounds.Tie as tie
-use Rattle.range.proofs.Branches.{is-span}
+use Rattle.range.proofs.Made.{is-span}
 
 returns : tie.Need-returns
 returns c = search is-span

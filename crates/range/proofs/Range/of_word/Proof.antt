@@ -1,6 +1,6 @@
 use Rattle.range.proofs.Range.of_word.Statement.{statement}
 use Rattle.range.proofs.Range.of_word.Tie as tie
-use Rattle.range.proofs.Branches.{is-point}
+use Rattle.range.proofs.Made.{is-point}
 
 returns : tie.Need-returns
 returns c = search is-point

@@ -1,0 +1,2 @@
+-- What ranges are made of.
+pub mod Pieces

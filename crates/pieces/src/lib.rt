@@ -1,0 +1,1 @@
+// No code: the pieces of ranges, and what their union is.
