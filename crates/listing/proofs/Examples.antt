@@ -11,7 +11,7 @@ use Rattle.term.specs.declared.Reason.the-variants.{Offsets, Separate, Undecide
 use Rattle.term.specs.Term.{read, rowOf}
 use Rattle.text.specs.Text.{ascii, digits, decimal, spaced}
 use Rattle.lines.specs.Lines.{line}
-use Rattle.listing.specs.List.{pieceText, piecesText, rangeText, reasonText, accessText, readLine, storeLine, storeLines, standsLine, resultLine}
+use Rattle.listing.specs.List.{pieceText, piecesText, rangeText, offsetsText, reasonText, accessText, readLine, storeLine, storeLines, standsLine, resultLine}
 
 first-line : readLine 12 8 4 7 ≡ ascii "instruction 12: read 8, array 4, index 7\n"
 unfolding digits decimal accessText readLine
@@ -43,7 +43,7 @@ longest-line = refl
 
 two-stores : storeLines 256 (λ n. 10 * n) 7 (record { store = 9; index = 5; why = Offsets 248 224 } ∷ record { store = 4; index = 2; why = Undecided } ∷ [])
     ≡ ascii "instruction 90: store 9, index 5 against 7, different offsets on a shared base, 248 and 224\ninstruction 40: store 4, index 2 against 7, undecided\n"
-unfolding digits decimal reasonText accessText storeLine storeLines
+unfolding digits decimal offsetsText reasonText accessText storeLine storeLines
 two-stores = refl
 
 stands : standsLine 1 ≡ ascii "stands on array 1\n"

@@ -22,7 +22,7 @@ use Rattle.term.proofs.Follows.{Follows, finds, passes, stops, ends, spent, Eac
 use Rattle.text.specs.Text.{decimal, spaced}
 use Rattle.text.proofs.Decimal.{decimal-one, decimal-few, decimal-within}
 use Rattle.lines.specs.Lines.{line}
-use Rattle.listing.specs.List.{pieceText, piecesText, rangeText, reasonText, accessText, readLine, storeLine, storeLines, foundLine, standsLine}
+use Rattle.listing.specs.List.{pieceText, piecesText, rangeText, offsetsText, reasonText, accessText, readLine, storeLine, storeLines, foundLine, standsLine}
 use Rattle.listing.specs.List.{endLine, resultLine, walkLines, list, most}
 use Rattle.listing.specs.Ready.{Numbered}
 
@@ -38,7 +38,7 @@ range-short M a =
     (λ _. omega (arith, piece-short (piece (a .lo) (a .hi))))
 
 reason-short : (M : ℕ) (why : Reason) → length (reasonText M why) ≤ 194
-unfolding reasonText
+unfolding reasonText offsetsText
 reason-short M SamePlace = omega arith
 reason-short M (Offsets p q) = simp length-append (omega (arith, decimal-few p, decimal-few q))
 reason-short M (Separate spans) = simp length-append (omega (arith, range-short M (spans .store), range-short M (spans .read)))

@@ -17,7 +17,7 @@ use Rattle.term.specs.declared.Met.{Met}
 use Rattle.text.specs.Text.{ascii, decimal, Put}
 use Rattle.text.proofs.Puts.{put-then, put-capped, put-within}
 use Rattle.lines.specs.Lines.{line, LINE}
-use Rattle.listing.specs.List.{pieceText, piecesText, rangeText, reasonText, accessText, readLine, storeLine, foundLine, standsLine, resultLine}
+use Rattle.listing.specs.List.{pieceText, piecesText, rangeText, offsetsText, reasonText, accessText, readLine, storeLine, foundLine, standsLine, resultLine}
 use Rattle.listing.specs.Ready.{Numbered}
 use Rattle.listing.proofs.Short.{store-short}
 
@@ -61,7 +61,8 @@ ranged-put M a front range = put-then front range (le-refl _)
 
 pub offsets-put : {l m n : List ℕ} {at x r : ℕ} (p q : ℕ)
     → Put l at (ascii "different offsets on a shared base, " ++ decimal p) 56 m x → Put m x (ascii " and " ++ decimal q) 25 n r
-    → Put l at (ascii "different offsets on a shared base, " ++ decimal p ++ ascii " and " ++ decimal q) 81 n r
+    → Put l at (offsetsText p q) 81 n r
+unfolding offsetsText
 offsets-put p q store read = put-onto (ascii " and ") (decimal q) store read (le-refl 81)
 
 pub spans-put : {l m n : List ℕ} {at p r : ℕ} (M : ℕ) (spans : Spans)
@@ -75,7 +76,7 @@ module _ {l m : List ℕ} {at r : ℕ} (M : ℕ) (why : Reason) where
   unfolding reasonText
   same-put e done = rw e (put-capped done (omega arith))
 
-  pub apart-put : (p q : ℕ) → why ≡ Offsets p q → Put l at (ascii "different offsets on a shared base, " ++ decimal p ++ ascii " and " ++ decimal q) 81 m r
+  pub apart-put : (p q : ℕ) → why ≡ Offsets p q → Put l at (offsetsText p q) 81 m r
       → Put l at (reasonText M why) 194 m r
   unfolding reasonText
   apart-put p q e done = rw e (put-capped done (omega arith))

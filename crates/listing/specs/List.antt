@@ -27,9 +27,12 @@ piecesText (p ∷ q ∷ ps) = pieceText p ++ ascii ", " ++ piecesText (q ∷ ps)
 unfoldable pub rangeText : ℕ → Range → List ℕ
 rangeText M a = piecesText (pieces M a)
 
+unfoldable pub offsetsText : ℕ → ℕ → List ℕ
+offsetsText p q = ascii "different offsets on a shared base, " ++ decimal p ++ ascii " and " ++ decimal q
+
 unfoldable pub reasonText : ℕ → Reason → List ℕ
 reasonText M SamePlace = ascii "same place"
-reasonText M (Offsets p q) = ascii "different offsets on a shared base, " ++ decimal p ++ ascii " and " ++ decimal q
+reasonText M (Offsets p q) = offsetsText p q
 reasonText M (Separate spans) = ascii "separate ranges, " ++ rangeText M (spans .store) ++ ascii " and " ++ rangeText M (spans .read)
 reasonText M Undecided = ascii "undecided"
 

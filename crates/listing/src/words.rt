@@ -13,7 +13,7 @@ ghost use mathlib.Core.List.{_++_};
 ghost use lib.ListN.{length};
 ghost use Rattle.pieces.specs.Pieces.{piece};
 ghost use Rattle.text.specs.Text.{ascii, decimal, Put};
-ghost use Rattle.listing.specs.List.{pieceText, rangeText, reasonText, accessText, readLine, storeLine, foundLine, standsLine, resultLine};
+ghost use Rattle.listing.specs.List.{pieceText, rangeText, offsetsText, reasonText, accessText, readLine, storeLine, foundLine, standsLine, resultLine};
 ghost use Rattle.listing.specs.Ready.{Numbered};
 
 // Writes a word and a number.
@@ -68,7 +68,7 @@ fn put_ranged(out: &mut [u8], at: usize, word: &[u8], top: u64, a: Range) -> usi
 // Writes the reason that two offsets give.
 fn put_offsets(out: &mut [u8], at: usize, p: u64, q: u64) -> usize
     requires { ⌜ at < 2 ^ 60 ⌝ }
-    ensures { λ r. ⌜ Put (now (out .entry)) at (ascii "different offsets on a shared base, " ++ decimal p ++ ascii " and " ++ decimal q) 81 (now (out .exit)) r ⌝ }
+    ensures { λ r. ⌜ Put (now (out .entry)) at (offsetsText p q) 81 (now (out .exit)) r ⌝ }
 {
     let next = put_labelled(out, at, b"different offsets on a shared base, ", p);
     put_labelled(out, next, b" and ", q)
