@@ -27,7 +27,7 @@ pub fn read(t: &[u8], x: usize) -> Verdict
     requires { ⌜ There (now t) x ⌝ }
     ensures { λ v. ⌜ v ≡ checkRows (now (t .entry)) (given (first (readReasons (now (t .entry)) x)) x accepted) ⌝ }
 {
-    let verdict = table::check_rows(t);
+    let verdict = scan::check_rows(t);
     if verdict.number != 0 {
         return verdict;
     }

@@ -37,7 +37,7 @@ pub fn run(t: &[u8], buffer: &[u8]) -> Verdict
             row: 0,
         };
     }
-    table::check_rows(t)
+    scan::check_rows(t)
 }
 
 // 1 to 8 of an edit.
@@ -89,7 +89,7 @@ pub fn words(t: &[u8], x: usize, y: usize) -> Verdict
     requires { ⌜ PairThere (now t) x y ⌝ }
     ensures { λ v. ⌜ v ≡ checkRows (now (t .entry)) (arrayVerdict (now (t .entry)) x y) ⌝ }
 {
-    let verdict = table::check_rows(t);
+    let verdict = scan::check_rows(t);
     if verdict.number != 0 {
         return verdict;
     }
@@ -113,7 +113,7 @@ pub fn edited(t: &[u8], kept: &[u8]) -> Verdict
     requires { ⌜ EditThere (now t) (now kept) ⌝ }
     ensures { λ v. ⌜ v ≡ checkRows (now (t .entry)) (keptVerdict (now (t .entry)) (keptPart (now (t .entry)) (now (kept .entry)))) ⌝ }
 {
-    let verdict = table::check_rows(t);
+    let verdict = scan::check_rows(t);
     if verdict.number != 0 {
         return verdict;
     }

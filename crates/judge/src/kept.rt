@@ -52,7 +52,7 @@ fn part_wrong(t: &[u8], part: &[u8]) -> bool
     requires { ⌜ Beside (now t) (now part) ⌝ }
     ensures { λ r. ⌜ r ≡ keptWrong (now (t .entry)) (now (part .entry)) ⌝ }
 {
-    let verdict = table::check(part);
+    let verdict = scan::check(part);
     if verdict.number != 0 {
         return true;
     }

@@ -1,9 +1,7 @@
--- Laws of the check.
+-- Laws of the refusals and of an accepted table.
 pub mod Fields
 pub mod Any
 pub mod Heads
-pub mod Own
-pub mod Scan
 pub mod Faulty
 pub mod Exactly
 pub mod Accepts

@@ -1,15 +1,15 @@
 -- What an accepted table guarantees: the record that everything above rests on.
-use Prim.Native.Nat.{ℕ, _+_, _≤_, _<_, _^_}
+use Prim.Native.Nat.{ℕ, _≤_, _<_, _^_}
 use mathlib.Core.Path.{_≡_}
 use mathlib.Core.Bool.{true, false}
 use mathlib.Core.List.{List}
 use lib.ListN.{length}
-use Rattle.row.specs.Names.{VAR, LENGTH, place}
+use Rattle.row.specs.Names.{VAR, place}
 use Rattle.row.specs.Bytes.{rowAt, markWrong}
 use Rattle.row.specs.declared.Row.{Row}
 use Rattle.table.specs.declared.Uses.{Uses}
 use Rattle.table.specs.Uses.{sortOf, usesOf}
-use Rattle.table.specs.Refusals.{width, rows, MOST, headWrong, isUsed, isReference, useAt, reference, notBelow, otherBounds}
+use Rattle.table.specs.Refusals.{width, rows, MOST, headWrong, isUsed, isReference, useAt, reference, otherBounds}
 use Rattle.names.specs.First.{nameAt, firstOf}
 
 -- row r of the table, which is x, and u, what its kind uses
@@ -38,22 +38,3 @@ pub record GoodHead (t : List ℕ) : Type 0 where
 pub record Accepted (t : List ℕ) : Type 0 where
   pub head : GoodHead t
   pub row : (r : ℕ) → r < rows t → GoodRow t r (rowAt t r) (usesOf (rowAt t r .kind))
-
--- what the check asks of a reference field f of row r before it looks at the row that it names
-pub record Named (t : List ℕ) (r : ℕ) (u : Uses) (x : Row) (f : ℕ) : Type 0 where
-  pub field : f < 3
-  pub below : notBelow r u x f ≡ false
-  pub within : place r ≤ length t
-
--- what the check asks of row r, which is x, and of u and w before it looks at the row's own bytes
-pub record OwnAsked (t : List ℕ) (w r : ℕ) (u : Uses) (x : Row) : Type 0 where
-  pub is-width : w ≡ width t
-  pub width-high : w ≤ 64
-  pub is-uses : u ≡ usesOf (x .kind)
-  pub within : place r + LENGTH ≤ length t
-
--- what the check asks of row r, which is x, and of the first row of its name
-pub record FirstAsked (t : List ℕ) (r : ℕ) (x : Row) (first : ℕ) : Type 0 where
-  pub is-row : x ≡ rowAt t r
-  pub low : first ≤ r
-  pub within : place r + LENGTH ≤ length t

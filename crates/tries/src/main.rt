@@ -150,7 +150,7 @@ fn say(t: &[u8], n: usize) {
     if t.len() < n {
         return;
     }
-    let v = table::check(&t[..n]);
+    let v = scan::check(&t[..n]);
     io::write_all(1, b": ");
     io::print_decimal(1, v.number);
     io::write_all(1, b" row ");

@@ -13,15 +13,16 @@ use Rattle.row.specs.declared.Row.{Row}
 use Rattle.row.specs.Names.{LENGTH, place}
 use Rattle.bytes.specs.Numbers.{Read}
 use Rattle.row.specs.Bytes.{rowAt, Decoded}
 use Rattle.table.specs.declared.Uses.{Uses}
 use Rattle.table.specs.declared.Verdict.{Verdict}
 use Rattle.table.specs.Uses.{usesOf}
 use Rattle.table.specs.Refusals.{width, rows, anyField, notBelow, wrongSort, boundsCrossed, otherBounds, headReasons, rowReasons, rowFault, refuse, accepted, given, firstFaulty, checkRows, checkTable}
-use Rattle.table.proofs.Any.{anyBelow, any-next, any-all, any-here}
+use Rattle.scan.proofs.Any.{anyBelow, any-next, any-all, any-here}
 use Rattle.table.proofs.Heads.{good-head}
 use Rattle.basis.proofs.Reasons.{first-past, first-within}
 use Rattle.row.proofs.Places.{room-in}
-use Rattle.table.specs.Accepted.{GoodHead, OwnAsked, Named, FirstAsked}
+use Rattle.table.specs.Accepted.{GoodHead}
+use Rattle.faults.specs.Asked.{OwnAsked, Named, FirstAsked}
 use Rattle.names.specs.First.{nameAt, firstOf}
 use Rattle.names.specs.Slots.{Slots, CanFind, Found}
 use Rattle.names.proofs.First.{first-of-low}

@@ -1,7 +1,7 @@
 use borrow.Author.Needs.{needs}
-use Rattle.table.proofs.Fields.{large-number}
-use Rattle.table.proofs.large_number.Statement.{statement}
-use Rattle.table.proofs.large_number.Tie as tie
+use Rattle.faults.proofs.Fields.{large-number}
+use Rattle.faults.proofs.large_number.Statement.{statement}
+use Rattle.faults.proofs.large_number.Tie as tie
 
 too-large-requires : tie.Need-too-large-requires
 too-large-requires c κs = search needs

@@ -1,7 +1,7 @@
 use borrow.Author.Needs.{needs}
-use Rattle.table.proofs.Fields.{named-room, no-sort, reference-sort}
-use Rattle.table.proofs.wrong_sort.Statement.{statement}
-use Rattle.table.proofs.wrong_sort.Tie as tie
+use Rattle.faults.proofs.Fields.{named-room, no-sort, reference-sort}
+use Rattle.faults.proofs.wrong_sort.Statement.{statement}
+use Rattle.faults.proofs.wrong_sort.Tie as tie
 
 use-at-requires : tie.Need-use-at-requires
 use-at-requires c κs = search needs

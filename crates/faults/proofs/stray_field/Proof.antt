@@ -1,7 +1,7 @@
 use mathlib.Core.Bool.{Bool·not-not}
 use Rattle.table.specs.Refusals.{strayField, anyField, isUsed, useAt, reference}
-use Rattle.table.proofs.stray_field.Statement.{statement}
-use Rattle.table.proofs.stray_field.Tie as tie
+use Rattle.faults.proofs.stray_field.Statement.{statement}
+use Rattle.faults.proofs.stray_field.Tie as tie
 
 returns : tie.Need-returns
 unfolding strayField anyField isUsed useAt reference

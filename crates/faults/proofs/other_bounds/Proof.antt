@@ -1,6 +1,6 @@
-use Rattle.table.proofs.Fields.{first-room, own-bounds, told-bounds}
-use Rattle.table.proofs.other_bounds.Statement.{statement}
-use Rattle.table.proofs.other_bounds.Tie as tie
+use Rattle.faults.proofs.Fields.{first-room, own-bounds, told-bounds}
+use Rattle.faults.proofs.other_bounds.Statement.{statement}
+use Rattle.faults.proofs.other_bounds.Tie as tie
 
 returns : tie.Need-returns
 returns c = search own-bounds

@@ -1,7 +1,7 @@
 use borrow.Author.Needs.{needs}
-use Rattle.table.proofs.Fields.{not-below}
-use Rattle.table.proofs.not_below.Statement.{statement}
-use Rattle.table.proofs.not_below.Tie as tie
+use Rattle.faults.proofs.Fields.{not-below}
+use Rattle.faults.proofs.not_below.Statement.{statement}
+use Rattle.faults.proofs.not_below.Tie as tie
 
 use-at-requires : tie.Need-use-at-requires
 use-at-requires c κs = search needs

@@ -1,8 +1,8 @@
 use native.Mathlib.Omega.{arith}
 use mathlib.Core.Path.{_≡_}
 use Rattle.table.specs.Refusals.{reference}
-use Rattle.table.proofs.reference.Statement.{statement}
-use Rattle.table.proofs.reference.Tie as tie
+use Rattle.faults.proofs.reference.Statement.{statement}
+use Rattle.faults.proofs.reference.Tie as tie
 
 returns : tie.Need-returns
 unfolding reference

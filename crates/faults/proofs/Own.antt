@@ -9,9 +9,9 @@ use Rattle.basis.specs.Reason.{first}
 use Rattle.row.specs.declared.Row.{Row}
 use Rattle.row.specs.Names.{place}
 use Rattle.row.specs.Bytes.{markWrong}
 use Rattle.table.specs.declared.Uses.{Uses}
 use Rattle.table.specs.Refusals.{strayField, largeNumber, rowReasons}
-use Rattle.table.specs.Accepted.{OwnAsked}
+use Rattle.faults.specs.Asked.{OwnAsked}
 
 module _ (t : List ℕ) (w r : ℕ) (u : Uses) (x : Row) (asked : OwnAsked t w r u x)
     {mark kind stray large : Bool} (mark-is : mark ≡ markWrong t (place r)) (kind-is : kind ≡ not (leb 1 (x .kind) && leb (x .kind) 9))

@@ -1,10 +1,10 @@
 use borrow.Author.Needs.{needs}
 use Prim.Native.Nat.{_-_}
 use native.Mathlib.Omega.{arith}
 use Rattle.table.proofs.Heads.{long-head}
-use Rattle.table.proofs.Scan.{Scanning, Looking, entered, row-room, own-asked, looking, named-asked, looked, first-asked, bounds-asked, passed, passed-all, stopped-own, stopped-13, stopped-14, stopped-15, stopped-18}
-use Rattle.table.proofs.check_rows.Statement.{statement}
-use Rattle.table.proofs.check_rows.Tie as tie
+use Rattle.scan.proofs.Scan.{Scanning, Looking, entered, row-room, own-asked, looking, named-asked, looked, first-asked, bounds-asked, passed, passed-all, stopped-own, stopped-13, stopped-14, stopped-15, stopped-18}
+use Rattle.scan.proofs.check_rows.Statement.{statement}
+use Rattle.scan.proofs.check_rows.Tie as tie
 
 abbrev Inv-loop : tie.InvT-loop
 Inv-loop t w n slots r row x u number mixed₀ f₀ mixed f = Looking t w n slots r x u mixed f

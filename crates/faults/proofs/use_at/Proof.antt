@@ -1,8 +1,8 @@
 use native.Mathlib.Omega.{arith}
 use mathlib.Core.Path.{_≡_}
 use Rattle.table.specs.Refusals.{useAt}
-use Rattle.table.proofs.use_at.Statement.{statement}
-use Rattle.table.proofs.use_at.Tie as tie
+use Rattle.faults.proofs.use_at.Statement.{statement}
+use Rattle.faults.proofs.use_at.Tie as tie
 
 returns : tie.Need-returns
 unfolding useAt

@@ -1,7 +1,7 @@
 use mathlib.Core.Path.{refl}
 use Rattle.table.specs.Refusals.{boundsCrossed}
-use Rattle.table.proofs.bounds_crossed.Statement.{statement}
-use Rattle.table.proofs.bounds_crossed.Tie as tie
+use Rattle.faults.proofs.bounds_crossed.Statement.{statement}
+use Rattle.faults.proofs.bounds_crossed.Tie as tie
 
 returns : tie.Need-returns
 unfolding boundsCrossed

@@ -1,7 +1,7 @@
 use borrow.Author.Needs.{needs}
-use Rattle.table.proofs.Own.{own-9, own-10, own-11, own-12, own-0}
-use Rattle.table.proofs.own_fault.Statement.{statement}
-use Rattle.table.proofs.own_fault.Tie as tie
+use Rattle.faults.proofs.Own.{own-9, own-10, own-11, own-12, own-0}
+use Rattle.faults.proofs.own_fault.Statement.{statement}
+use Rattle.faults.proofs.own_fault.Tie as tie
 
 mark-wrong-requires : tie.Need-mark-wrong-requires
 mark-wrong-requires c κs = search needs

@@ -1,7 +1,7 @@
 use borrow.Author.Needs.{needs}
-use Rattle.table.proofs.Scan.{head-checked, rows-checked}
-use Rattle.table.proofs.check.Statement.{statement}
-use Rattle.table.proofs.check.Tie as tie
+use Rattle.scan.proofs.Scan.{head-checked, rows-checked}
+use Rattle.scan.proofs.check.Statement.{statement}
+use Rattle.scan.proofs.check.Tie as tie
 
 head-requires : tie.Need-head-requires
 head-requires c κs = search needs

@@ -1,0 +1,3 @@
+-- Laws of the faults of one row.
+pub mod Fields
+pub mod Own

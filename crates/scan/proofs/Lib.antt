@@ -1,0 +1,3 @@
+-- Laws of the scan.
+pub mod Any
+pub mod Scan
