@@ -1,12 +1,12 @@
 -- The ways out of the tests of one field, of the numbers, and of the bounds.
 use Prim.Native.Nat.{ℕ, _+_, _^_, _≤_, _<_}
 use native.Mathlib.Omega.{arith}
-use mathlib.Core.Path.{_≡_, refl, sym, ap, _∙_}
-use mathlib.Core.Bool.{Bool, true, false, not, _&&_, _||_}
+use mathlib.Core.Path.{_≡_, sym, ap, _∙_}
+use mathlib.Core.Bool.{Bool, false, not, _&&_, _||_}
 use mathlib.Core.List.{List}
 use lib.Dec.{leb, eqb}
 use lib.ListN.{length}
-use borrow.Author.Tests.{eq-eqb, le-leb, lt-leb}
+use borrow.Author.Tests.{le-leb, lt-leb}
 use Rattle.row.specs.declared.Row.{Row}
 use Rattle.row.specs.Names.{LENGTH, place}
 use Rattle.row.specs.Bytes.{rowAt, Decoded}
@@ -14,7 +14,7 @@ use Rattle.row.proofs.Places.{room-below, place-grows}
 use Rattle.table.specs.declared.Uses.{Uses}
 use Rattle.table.specs.Uses.{WORD, sortOf}
 use Rattle.table.specs.Refusals.{reference, useAt, isReference, largeNumber, notBelow, wrongSort, otherBounds}
-use Rattle.table.proofs.Fields.{refers-below}
+use Rattle.table.proofs.Fields.{refers-below, same-bounds}
 use Rattle.faults.specs.Asked.{Named, FirstAsked}
 
 pub not-below : (r : ℕ) (u : Uses) (x : Row) (f : ℕ) {how at : ℕ} → how ≡ useAt u f → at ≡ reference x f → (leb WORD how && leb r at) ≡ notBelow r u x f
@@ -43,10 +43,6 @@ unfolding largeNumber
 large-number w u x k-is h-is = rw (k-is, h-is)
 
 -- ---- the bounds of the first row of a name
-
-pub same-bounds : (x : Row) → otherBounds x x ≡ false
-unfolding otherBounds
-same-bounds x = rw (eq-eqb (x .k) (x .k) refl, eq-eqb (x .h) (x .h) refl)
 
 module _ (t : List ℕ) (r : ℕ) (x : Row) (first : ℕ) (asked : FirstAsked t r x first) where
   pub first-room : place first + LENGTH ≤ length t

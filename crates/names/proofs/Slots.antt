@@ -133,24 +133,25 @@ module _ (t slots : List ℕ) (r : ℕ) (can : CanFind t slots r) {y more : ℕ}
   pub next-slots : Fits w16 (y + more)
   next-slots = record { fits = omega (arith, can .few) }
 
+-- a row without a name leaves the slots as they are
+pub nameless-slots : (t slots : List ℕ) (r : ℕ) → Slots t slots r → nameAt t r ≡ 0 → Slots t slots (suc r)
+nameless-slots t slots r valid none =
+    record {
+      long = valid .long;
+      low = λ s. let low : getD slots s 0 ≤ r = valid .low s in omega arith;
+      first = valid .first;
+      none = λ y l.
+          ⊎-elim
+          (λ (same : y ≡ r) named. absurd (named (ap (nameAt t) same ∙ none)))
+          (λ (below : y < r). valid .none y below)
+          (eq-or-lt-of-le (let low : y ≤ r = omega arith in low));
+    }
+
 module _ (t slots : List ℕ) (r : ℕ) (can : CanFind t slots r) {name : ℕ} (read : Read (nameAt t r) 65536 name) where
-  -- a row without a name leaves the slots as they are
   pub nameless-found : name ≡ 0 → Found t r r slots
   nameless-found e =
       let none : nameAt t r ≡ 0 = sym (read .is) ∙ e in
-      record {
-        is = sym (nameless-first (nameAt t) r none);
-        valid = record {
-          long = can .valid .long;
-          low = λ s. let low : getD slots s 0 ≤ r = can .valid .low s in omega arith;
-          first = can .valid .first;
-          none = λ y l.
-              ⊎-elim
-              (λ (same : y ≡ r) named. absurd (named (ap (nameAt t) same ∙ none)))
-              (λ (below : y < r). can .valid .none y below)
-              (eq-or-lt-of-le (let low : y ≤ r = omega arith in low));
-        };
-      }
+      record { is = sym (nameless-first (nameAt t) r none); valid = nameless-slots t slots r (can .valid) none }
 
   -- a row with a name has its first put into the slot of the name
   module _ (some : name ≡ 0 → ⊥) where

@@ -23,10 +23,11 @@ use Rattle.basis.proofs.Reasons.{first-past, first-within}
 use Rattle.row.proofs.Places.{room-in}
 use Rattle.table.specs.Accepted.{GoodHead}
 use Rattle.faults.specs.Asked.{OwnAsked, Named, FirstAsked}
+use Rattle.clean.specs.Clean.{Asked, NoFault}
 use Rattle.names.specs.First.{nameAt, firstOf}
 use Rattle.names.specs.Slots.{Slots, CanFind, Found}
 use Rattle.names.proofs.First.{first-of-low}
-use Rattle.names.proofs.Slots.{no-slots}
+use Rattle.names.proofs.Slots.{no-slots, nameless-slots}
 
 -- rows below r are in order, and were asked for their first rows: what is left of the n rows gives the whole answer
 pub record Scanning (t : List ℕ) (w n : ℕ) (slots : List ℕ) (r : ℕ) : Type 0 where
@@ -102,6 +103,19 @@ module _ (t : List ℕ) (w n : ℕ) where
             left = rw add-one (rw e at left-here);
             asked = rw add-one asked;
           }
+
+      pub clean-asked : (x : Row) → Decoded t r x → Asked t w r x
+      clean-asked x decoded =
+          record {
+            is-width = scan .w-is;
+            width-high = rw (scan .w-is) (scan .good .width-high);
+            is-row = decoded .is;
+            within = row-room;
+          }
+
+      -- a row that is seen to have no fault
+      pub skipped : {clean : Bool} → NoFault t r clean → clean ≡ true → Scanning t w n slots (r + 1)
+      skipped told e = next-row (told .fault e) (nameless-slots t slots r (scan .asked) (told .name e))
 
       module _ (x : Row) (u : Uses) (decoded : Decoded t r x) (uses-is : u ≡ usesOf (x .kind)) where
         pub own-asked : OwnAsked t w r u x

@@ -21,6 +21,11 @@ pub fn check_rows(t: &[u8]) -> Verdict
         }
         let row = r as u64;
         let x = Row::decode(t, r);
+        // nearly every row: no number is to be found
+        if clean::by_kind(t, w, r, x) {
+            r += 1;
+            continue;
+        }
         let u = Uses::of(x.kind);
         let number = faults::own_fault(t, w, r, u, x);
         if number != 0 {

@@ -82,7 +82,7 @@ module _ (t : List ℕ) (r : ℕ) (x : Row) where
         agrees = none .1 .1 .1 .1 .1 .1 .1 .0;
       }
 
-  row-good : GoodRow t r x (usesOf (x .kind)) → NoneHolds (rowReasons t r x)
+  pub row-good : GoodRow t r x (usesOf (x .kind)) → NoneHolds (rowReasons t r x)
   unfolding rowReasons strayField largeNumber notBelow wrongSort boundsCrossed u stray stray-k stray-h large-k large-h
   row-good good =
       let strays : anyField stray ≡ false = none-any stray (λ f l. unused-zero (isUsed (useAt u f)) (reference x f) (good .unused-zero f l)) in (

@@ -51,7 +51,7 @@ row-passes : (t : List ℕ) (r : ℕ) → rowFault t r ≡ 0 → RowPasses t r
 unfolding rowFault rowReasons
 row-passes t r e = first-none (rowReasons t r (rowAt t r)) refl e
 
-passes-row : (t : List ℕ) (r : ℕ) → RowPasses t r → rowFault t r ≡ 0
+pub passes-row : (t : List ℕ) (r : ℕ) → RowPasses t r → rowFault t r ≡ 0
 unfolding rowFault
 passes-row t r h = none-first (rowReasons t r (rowAt t r)) h
 

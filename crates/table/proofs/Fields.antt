@@ -1,15 +1,15 @@
 -- What kinds use, kind by kind, and what a reference field that passed 13 names.
 use Prim.Native.Nat.{ℕ, _≤_, _<_}
 use native.Mathlib.Omega.{arith}
-use mathlib.Core.Path.{_≡_}
+use mathlib.Core.Path.{_≡_, refl}
 use mathlib.Core.Bool.{true, false}
 use lib.ListN.{List·getD-eq-default}
-use borrow.Author.Tests.{ne-eqb, leb-false}
+use borrow.Author.Tests.{eq-eqb, ne-eqb, leb-false}
 use Rattle.row.specs.declared.Row.{Row}
 use Rattle.row.specs.Names.{FRESH, WRITE}
 use Rattle.table.specs.declared.Uses.{Uses}
 use Rattle.table.specs.Uses.{UNUSED, WORD, uses, table, sortOf, usesOf}
-use Rattle.table.specs.Refusals.{reference, useAt, isReference, notBelow}
+use Rattle.table.specs.Refusals.{reference, useAt, isReference, notBelow, otherBounds}
 
 above-four : (k : ℕ) → (k ≡ 0 → ⊥) → (k ≡ 1 → ⊥) → (k ≡ 2 → ⊥) → (k ≡ 3 → ⊥) → (k ≡ 4 → ⊥) → 5 ≤ k
 above-four k a b c d e = omega arith
@@ -30,3 +30,8 @@ word-sort k a b = rw (ne-eqb k FRESH a, ne-eqb k WRITE b)
 pub refers-below : (r : ℕ) (u : Uses) (x : Row) (f : ℕ) → notBelow r u x f ≡ false → isReference (useAt u f) ≡ true → reference x f < r
 unfolding notBelow
 refers-below r u x f e refers = leb-false r (reference x f) (rw refers at e)
+
+-- a row states its own bounds
+pub same-bounds : (x : Row) → otherBounds x x ≡ false
+unfolding otherBounds
+same-bounds x = rw (eq-eqb (x .k) (x .k) refl, eq-eqb (x .h) (x .h) refl)

@@ -2,7 +2,7 @@ use borrow.Author.Needs.{needs}
 use Prim.Native.Nat.{_-_}
 use native.Mathlib.Omega.{arith}
 use Rattle.table.proofs.Heads.{long-head}
-use Rattle.scan.proofs.Scan.{Scanning, Looking, entered, row-room, own-asked, looking, named-asked, looked, first-asked, bounds-asked, passed, passed-all, stopped-own, stopped-13, stopped-14, stopped-15, stopped-18}
+use Rattle.scan.proofs.Scan.{Scanning, Looking, entered, row-room, clean-asked, skipped, own-asked, looking, named-asked, looked, first-asked, bounds-asked, passed, passed-all, stopped-own, stopped-13, stopped-14, stopped-15, stopped-18}
 use Rattle.scan.proofs.check_rows.Statement.{statement}
 use Rattle.scan.proofs.check_rows.Tie as tie
 
@@ -30,6 +30,18 @@ rows-holds c = search entered
 decode-requires : tie.Need-decode-requires Inv-loop μ-loop Inv-rows μ-rows
 decode-requires c κs = search row-room
 
+by-kind-requires : tie.Need-by-kind-requires Inv-loop μ-loop Inv-rows μ-rows
+by-kind-requires c κs = search clean-asked
+
+add-r : tie.Need-add-r Inv-loop μ-loop Inv-rows μ-rows
+add-r c = omega arith
+
+rows-less : tie.Need-rows-less Inv-loop μ-loop Inv-rows μ-rows
+rows-less c = omega arith
+
+rows-again : tie.Need-rows-again Inv-loop μ-loop Inv-rows μ-rows
+rows-again c = search skipped
+
 of-requires : tie.Need-of-requires Inv-loop μ-loop Inv-rows μ-rows
 of-requires c κs = tt
 
@@ -44,7 +56,7 @@ not-below-requires c κs = search needs
 
 wrong-sort-requires : tie.Need-wrong-sort-requires Inv-loop μ-loop Inv-rows μ-rows
 wrong-sort-requires c κs =
-    named-asked _ _ _ _ _ _ _ _ _ (c .before .before .before .loop .inv) (omega arith) (c .before .not-below .ensures) (c .if3 .left)
+    named-asked _ _ _ _ _ _ _ _ _ (c .before .before .before .loop .inv) (omega arith) (c .before .not-below .ensures) (c .if4 .left)
 
 add-f : tie.Need-add-f Inv-loop μ-loop Inv-rows μ-rows
 add-f c = omega arith
@@ -54,7 +66,7 @@ loop-less c = omega arith
 
 loop-again : tie.Need-loop-again Inv-loop μ-loop Inv-rows μ-rows
 loop-again c =
-    looked _ _ _ _ _ _ _ _ _ (c .before .before .before .before .loop .inv) (omega arith) (c .before .before .not-below .ensures) (c .before .if3 .left) (c .wrong-sort .ensures)
+    looked _ _ _ _ _ _ _ _ _ (c .before .before .before .before .loop .inv) (omega arith) (c .before .before .not-below .ensures) (c .before .if4 .left) (c .wrong-sort .ensures)
 
 bounds-crossed-requires : tie.Need-bounds-crossed-requires Inv-loop μ-loop Inv-rows μ-rows
 bounds-crossed-requires c κs = tt
@@ -65,14 +77,14 @@ first-of-requires c κs = search first-asked
 other-bounds-requires : tie.Need-other-bounds-requires Inv-loop μ-loop Inv-rows μ-rows
 other-bounds-requires c κs = search bounds-asked
 
-add-r : tie.Need-add-r Inv-loop μ-loop Inv-rows μ-rows
-add-r c = omega arith
+add-r-2 : tie.Need-add-r-2 Inv-loop μ-loop Inv-rows μ-rows
+add-r-2 c = omega arith
 
-rows-less : tie.Need-rows-less Inv-loop μ-loop Inv-rows μ-rows
-rows-less c = omega arith
+rows-less-2 : tie.Need-rows-less-2 Inv-loop μ-loop Inv-rows μ-rows
+rows-less-2 c = omega arith
 
-rows-again : tie.Need-rows-again Inv-loop μ-loop Inv-rows μ-rows
-rows-again c = search passed
+rows-again-2 : tie.Need-rows-again-2 Inv-loop μ-loop Inv-rows μ-rows
+rows-again-2 c = search passed
 
 returns : tie.Need-returns Inv-loop μ-loop Inv-rows μ-rows
 returns c = search passed-all
@@ -104,6 +116,10 @@ check-rows-spec =
     rows-of-requires
     rows-holds
     decode-requires
+    by-kind-requires
+    add-r
+    rows-less
+    rows-again
     of-requires
     own-fault-requires
     loop-holds
@@ -115,9 +131,9 @@ check-rows-spec =
     bounds-crossed-requires
     first-of-requires
     other-bounds-requires
-    add-r
-    rows-less
-    rows-again
+    add-r-2
+    rows-less-2
+    rows-again-2
     returns
     returns-2
     returns-3

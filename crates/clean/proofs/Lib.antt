@@ -1,0 +1,2 @@
+-- Laws of rows without a fault.
+pub mod Clean
