@@ -1,6 +1,7 @@
 /*
  * Stezkoun: checks a table of word and array terms, writes its simplified table, replaces one
- * row of a table together with its kept result, compares two rows, and lists why a read moved.
+ * row of a table together with its kept result, tells from a kept result whether two rows are the
+ * same or apart, and lists why a read moved.
  *
  * A table is 6 + 30 n bytes: a header (46 54, width 1..64, 0, row count n 0..1024 in two bytes)
  * and n rows of 30 bytes (52 4F, kind, 0, references a b c in two bytes each, values k h in
@@ -18,13 +19,15 @@
  * to whatever those lead back to.
  *
  * Lending. Every buffer belongs to the caller; nothing is kept, allocated or freed, and nothing
- * outside the given lengths is read or written. Within one call the lent buffers must not
- * overlap. A pointer must not be null, not even with length 0. Any bytes may be lent: what is
- * not a table is refused. Calls share no state, so calls with different buffers may run at once.
+ * outside the given lengths is read or written. Within one call a buffer that may be written, one
+ * that is not const, must not overlap another. A pointer must not be null, not even with length 0.
+ * Any bytes may be lent: what is not a table is refused. Calls share no state, so calls may run at
+ * once where none may write a buffer that another is lent.
  *
  * Answers. On acceptance refusal and row are 0, removed counts the rows that are READ in the
- * table and not READ in the result, and touched counts the rows that were worked out. On a
- * refusal removed and touched are 0 and every lent byte is as it was.
+ * table and not READ in the result, and touched counts the rows that were worked out. Of
+ * stezkoun_ask, which works out none, both are 0. On a refusal removed and touched are 0 and every
+ * lent byte is as it was.
  */
 #ifndef STEZKOUN_H
 #define STEZKOUN_H
@@ -38,8 +41,9 @@ extern "C" {
 
 /*
  * Refusals, in the order in which they are looked for: 1 to 8; then the rows ascending, each
- * 9 to 15 and 18, the first faulty row ending the search; then 16, 17, 22. Of 9 to 15 and 18 the
- * answer's row is the faulty row and of 17 the row that was named; of all others it is 0.
+ * 9 to 15 and 18, the first faulty row ending the search; then 16; then 14 for a number that names
+ * an array row, 17, 22. Of 9 to 15 and 18 the answer's row is the faulty row, and of 17, and of 14
+ * for a number, the row that was named; of all others it is 0.
  */
 enum stezkoun_refusal {
     STEZKOUN_ACCEPTED = 0,
@@ -49,7 +53,8 @@ enum stezkoun_refusal {
     STEZKOUN_ROW_COUNT = 4,          /* n above 1024 */
     STEZKOUN_TABLE_LENGTH = 5,       /* table length is not 6 + 30 n */
     STEZKOUN_RESULT_TOO_SHORT = 6,   /* result or kept result shorter than the table */
-    STEZKOUN_ROW_NUMBER = 7,         /* a row number given by the caller is not below n */
+    STEZKOUN_ROW_NUMBER = 7,         /* a row number given by the caller is not below n; of two
+                                        numbers either */
     STEZKOUN_REPLACEMENT_LENGTH = 8, /* replacement is not 30 bytes long */
     STEZKOUN_ROW_MARK = 9,           /* row mark or zero byte wrong */
     STEZKOUN_KIND = 10,              /* kind not 1 to 9 */
@@ -57,11 +62,12 @@ enum stezkoun_refusal {
     STEZKOUN_VALUE = 12,             /* a used k or h is 2^width or more */
     STEZKOUN_REFERENCE = 13,         /* a used reference is not below its own row's number */
     STEZKOUN_SORT = 14,              /* a word named where an array belongs, or the reverse; also
-                                        an array row named to stezkoun_compare */
+                                        an array row named to stezkoun_ask */
     STEZKOUN_BOUNDS = 15,            /* VAR with k above h */
-    STEZKOUN_KEPT_RESULT = 16,       /* kept result refused as a table, or with another header, or
-                                        with an array where the edited table has a word, or the
-                                        reverse */
+    STEZKOUN_KEPT_RESULT = 16,       /* kept result, as far as the table is long, refused as a
+                                        table, or with another header, or with an array where the
+                                        table as it stands has a word, or the reverse; an edit's
+                                        table has the replacement in place */
     STEZKOUN_NOT_A_READ = 17,        /* a row named to stezkoun_why is not a READ */
     STEZKOUN_OTHER_BOUNDS = 18,      /* VAR with other k or h than the first row of its name */
     STEZKOUN_LIST_TOO_SHORT = 22     /* space for the list shorter than the list */
@@ -99,14 +105,18 @@ struct stezkoun_answer stezkoun_edit(uint8_t *table, size_t table_len,
                                      const uint8_t *replacement, size_t replacement_len);
 
 /*
- * Simplifies as stezkoun_run does, then says of two word rows whether they are the same in every
- * case, apart in every case, or not known to be either. Gives refusals 1 to 7, 9 to 15 and 18; 14
- * also, after all faults of rows, for a number that names an array row, its row being that
- * number and the first number coming first.
+ * Says of two word rows of the table, by their rows in its kept result, whether they are the same
+ * in every case, apart in every case, or not known to be either. Nothing is run: both buffers are
+ * only read, a result may be asked any number of times, and removed and touched are 0. The table's
+ * own kept result is what stezkoun_run left, and stezkoun_edit after it. Any other that is not
+ * refused is answered by its rows as they stand, each VAR row a variable of its own; that says
+ * nothing of the table. Gives refusals 1 to 7, 9 to 15 and 18, then 16, judged beside the table as
+ * it stands, then 14 for a number that names an array row of the table, its row being that number
+ * and the first number coming first.
  */
-struct stezkoun_comparison stezkoun_compare(const uint8_t *table, size_t table_len,
-                                            uint8_t *result, size_t result_len,
-                                            uint64_t first, uint64_t second);
+struct stezkoun_comparison stezkoun_ask(const uint8_t *table, size_t table_len,
+                                        const uint8_t *kept, size_t kept_len,
+                                        uint64_t first, uint64_t second);
 
 /*
  * Simplifies as stezkoun_run does, and lists the walk of one READ row of the table: each store

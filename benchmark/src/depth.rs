@@ -46,20 +46,23 @@ pub fn print(subjects: &[Subject]) {
             })
         });
         let edit = edit.max().unwrap_or(0);
-        let [first, second] = subject.compared();
-        let compare = depth(&mut stack, &mut || {
-            numbers::compare(table, &mut result, first, second);
+        let ask = subject.questions().into_iter().map(|question| {
+            let [first, second] = question.rows;
+            depth(&mut stack, &mut || {
+                numbers::ask(table, &subject.result, first, second);
+            })
         });
+        let ask = ask.max().unwrap_or(0);
         let why = depth(&mut stack, &mut || {
             numbers::why(table, &mut result, subject.listed(), &mut list);
         });
-        for (deepest, depth) in deepest.iter_mut().zip([run, edit, compare, why]) {
+        for (deepest, depth) in deepest.iter_mut().zip([run, edit, ask, why]) {
             *deepest = depth.max(*deepest);
         }
     }
     println!("deepest stack of the library, in bytes, on a painted stack of its own");
     println!("  ({nothing} bytes of each figure are what an empty call takes)");
-    for (name, depth) in ["run", "edit", "compare", "why"].iter().zip(deepest) {
+    for (name, depth) in ["run", "edit", "ask", "why"].iter().zip(deepest) {
         println!("  {name:<8} {depth:>8}");
     }
 }

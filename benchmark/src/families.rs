@@ -1,7 +1,7 @@
 //! The tables that are measured.
 
 use second::bytes::{row_bytes, table_bytes, ROW};
-use second::{Row, Width};
+use second::{Reason, Row, Sort, Width};
 use tables::machine::Stack;
 use tables::random::Random;
 use tables::sources::sources;
@@ -19,11 +19,12 @@ pub enum Family {
     StackAndHeap,
     StackAcrossZero,
     Chain,
+    Sums,
 }
 
 impl Family {
-    pub const ALL: [Family; 4] =
-        [Family::Stack, Family::StackAndHeap, Family::StackAcrossZero, Family::Chain];
+    pub const ALL: [Family; 5] =
+        [Family::Stack, Family::StackAndHeap, Family::StackAcrossZero, Family::Chain, Family::Sums];
 
     pub fn name(self) -> &'static str {
         match self {
@@ -31,6 +32,7 @@ impl Family {
             Family::StackAndHeap => "stack and heap, some pointers read from memory",
             Family::StackAcrossZero => "stack across zero, and heap in the gap of its range",
             Family::Chain => "one long chain of stores at one base, reads past them",
+            Family::Sums => "sums, differences and negations, each of the rows before it",
         }
     }
 
@@ -51,8 +53,26 @@ impl Family {
             Family::StackAndHeap => machine(Stack::High, true, 40),
             Family::StackAcrossZero => machine(Stack::AtZero, true, 0),
             Family::Chain => chain::rows(width, count),
+            Family::Sums => sums(width, count),
         }
     }
+}
+
+/// A variable, a read, and then rows of the two before them. The result has all of them as they are,
+/// so that the ranges of the last two are made from those of every word above.
+fn sums(width: Width, count: usize) -> Vec<Row> {
+    let variable = Row::Var { name: 0, low: 0, high: width.largest() / 2 };
+    let mut rows = vec![variable, Row::Fresh, Row::Read { array: 1, index: 0 }];
+    rows.push(Row::Sum { a: 0, b: 2, k: 0 });
+    while rows.len() < count {
+        let (number, k) = (rows.len(), rows.len() as u64);
+        rows.push(match number % 3 {
+            0 => Row::Sum { a: number - 2, b: number - 1, k },
+            1 => Row::Neg { a: number - 1, k },
+            _ => Row::Diff { a: number - 1, b: number - 2, k },
+        });
+    }
+    rows
 }
 
 /// A table, its result, and the calls to measure on it.
@@ -61,6 +81,12 @@ pub struct Subject {
     sources: Vec<u32>,
     pub table: Vec<u8>,
     pub result: Vec<u8>,
+}
+
+/// A question to repeat, about two word rows.
+pub struct Question {
+    pub name: &'static str,
+    pub rows: [u64; 2],
 }
 
 /// An edit to repeat: two replacements in turn, so that each call changes something.
@@ -132,19 +158,29 @@ impl Subject {
         }
         let last = self.rows.len() - 1;
         let other = match self.rows[last].sort() {
-            second::Sort::Word => Row::Const { k: 1 },
-            second::Sort::Array => Row::Fresh,
+            Sort::Word => Row::Const { k: 1 },
+            Sort::Array => Row::Fresh,
         };
         edits.push(self.edit("edit last", last, other));
         edits
     }
 
-    /// The last two word rows.
-    pub fn compared(&self) -> [u64; 2] {
-        let mut words =
-            (0..self.rows.len()).rev().filter(|row| self.rows[*row].sort() == second::Sort::Word);
-        let second = words.next().expect("every family has words");
-        [words.next().unwrap_or(second) as u64, second as u64]
+    /// The last two word rows; the last one and the nearest before it with which it shares a base, or
+    /// itself; and the last one and the nearest with which it shares none, so that ranges are asked for.
+    pub fn questions(&self) -> [Question; 3] {
+        let words = (0..self.rows.len()).rev().filter(|row| self.rows[*row].sort() == Sort::Word);
+        let mut words = words.map(|row| row as u64);
+        let last = words.next().expect("every family has words");
+        let words: Vec<u64> = words.collect();
+        let shares = |row: &u64| {
+            let reason = second::ask(&self.table, &self.result, *row, last).reason;
+            matches!(reason, Reason::SamePlace | Reason::SharedBase { .. })
+        };
+        let before = words.first().copied().unwrap_or(last);
+        let shared = words.iter().copied().find(shares).unwrap_or(last);
+        let other = words.iter().copied().find(|row| !shares(row)).unwrap_or(last);
+        [("last two", before), ("one base", shared), ("two bases", other)]
+            .map(|(name, row)| Question { name, rows: [row, last] })
     }
 
     /// The last READ row.

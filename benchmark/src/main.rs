@@ -5,7 +5,7 @@ mod families;
 mod plain;
 mod timing;
 
-use families::{Edit, Family, Subject, NAMES, SIZES};
+use families::{Edit, Family, Question, Subject, NAMES, SIZES};
 use second::text::LONGEST_LIST;
 use std::hint::black_box;
 use stezkoun::numbers;
@@ -47,16 +47,15 @@ fn edits<'a>(subject: &Subject, edit: &Edit) -> Vec<Call<'a>> {
     ]
 }
 
-fn comparisons(subject: &Subject) -> Vec<Call<'_>> {
-    let table = &subject.table;
-    let [mut one, mut other] = [(); 2].map(|_| vec![0; table.len()]);
-    let [first, second] = subject.compared();
+fn questions(subject: &Subject, rows: [u64; 2]) -> Vec<Call<'_>> {
+    let Subject { table, result, .. } = subject;
+    let [first, second] = rows;
     vec![
         Box::new(move || {
-            black_box(numbers::compare(table, &mut one, first, second));
+            black_box(numbers::ask(black_box(table), result, first, second));
         }),
         Box::new(move || {
-            black_box(second::compare(table, &mut other, first, second));
+            black_box(second::ask(black_box(table), result, first, second));
         }),
     ]
 }
@@ -90,6 +89,12 @@ fn check(subject: &Subject) {
         }
         assert!(kept == subject.result, "{} and back again", edit.name);
     }
+    for Question { name, rows: [first, second] } in subject.questions() {
+        let asked = numbers::ask(&subject.table, &subject.result, first, second);
+        let expected = second::ask(&subject.table, &subject.result, first, second);
+        assert_eq!(asked.answer.refusal, 0, "{name}");
+        assert_eq!(asked.relation, expected.relation() as u64, "{name}");
+    }
     let (row, mut list) = (subject.listed(), vec![0; LONGEST_LIST]);
     let listing = numbers::why(&subject.table, &mut results[0], row, &mut list);
     let expected = second::text::listed(&subject.table, row);
@@ -119,6 +124,33 @@ fn line(name: &str, rows: usize, figures: &[f64], before: Option<f64>) {
     match before {
         Some(before) => println!(" {:>8.2}", library / before),
         None => println!(" {:>8}", "-"),
+    }
+}
+
+/// What a question costs beside the run that a comparison made first, each time; the ratio says how
+/// many questions take the time of one run.
+fn questions_and_runs() {
+    println!(
+        "\na question beside a fresh run for each, as a comparison made it; the library alone"
+    );
+    let columns = ["last two", "one base", "two bases"];
+    print!("  {:>5} {:>10}", "rows", "run");
+    columns.iter().for_each(|name| print!(" {name:>10} {:>7}", "ratio"));
+    println!();
+    for family in Family::ALL {
+        println!(" {}", family.name());
+        for size in SIZES {
+            let subject = Subject::new(family, size);
+            let asked = subject.questions();
+            assert_eq!(asked.each_ref().map(|question| question.name), columns);
+            let mut calls = vec![runs(&subject).swap_remove(0)];
+            calls.extend(asked.map(|asked| questions(&subject, asked.rows).swap_remove(0)));
+            let figures = timing::measured(&mut calls);
+            let run = figures[0];
+            print!("  {size:>5} {run:>10.0}");
+            figures[1..].iter().for_each(|ask| print!(" {ask:>10.0} {:>7.2}", run / ask));
+            println!();
+        }
     }
 }
 
@@ -167,10 +199,12 @@ fn main() {
             for edit in subject.edits() {
                 lines.push((edit.name, size, timing::measured(&mut edits(&subject, &edit))));
             }
-            lines.push(("compare", size, timing::measured(&mut comparisons(&subject))));
+            let [last_two, ..] = subject.questions();
+            let asked = timing::measured(&mut questions(&subject, last_two.rows));
+            lines.push(("ask", size, asked));
             lines.push(("why", size, timing::measured(&mut lists(&subject))));
         }
-        for name in ["run", "edit first", "edit middle", "edit last", "compare", "why"] {
+        for name in ["run", "edit first", "edit middle", "edit last", "ask", "why"] {
             let mut before = None;
             for (_, rows, figures) in lines.iter().filter(|line| line.0 == name) {
                 line(name, *rows, figures, before);
@@ -179,6 +213,7 @@ fn main() {
         }
     }
     names(&NAMES.map(Subject::named));
+    questions_and_runs();
     removed_reads();
     println!();
     depth::print(&subjects);

@@ -1,6 +1,6 @@
 /*
- * Simplifies table P1, asks why its last read moved, widens its variable and sees what becomes
- * of the result.
+ * Simplifies table P1, asks the result about pairs of rows and why its last read moved, widens its
+ * variable and sees what becomes of the result and the answers.
  *
  *   cc -I include examples/c/simplify.c libstezkoun.a -o simplify && ./simplify
  */
@@ -62,29 +62,40 @@ static int print_answer(const char *call, struct stezkoun_answer answer) {
     return 0;
 }
 
+/* Asks any number of questions over one result; none runs anything. */
+static int print_relations(const uint8_t *table, const uint8_t *result, size_t length) {
+    static const uint64_t pairs[][2] = { { 2, 6 }, { 0, 2 }, { 2, 7 } };
+    static const char *relations[] = { "not known", "same", "apart" };
+    for (size_t i = 0; i < sizeof pairs / sizeof *pairs; i++) {
+        uint64_t first = pairs[i][0], second = pairs[i][1];
+        struct stezkoun_comparison asked =
+            stezkoun_ask(table, length, result, length, first, second);
+        if (asked.answer.refusal != STEZKOUN_ACCEPTED) return print_answer("ask", asked.answer);
+        printf("rows %" PRIu64 " and %" PRIu64 ": %s\n", first, second, relations[asked.relation]);
+    }
+    return 0;
+}
+
 int main(void) {
     uint8_t table[HEADER + ROW * ROWS], result[sizeof table], wide[ROW], list[512];
-    static const char *relations[] = { "not known", "same", "apart" };
 
     put_p1(table);
     if (print_answer("run", stezkoun_run(table, sizeof table, result, sizeof result))) return 1;
     print_rows(result);
 
-    struct stezkoun_comparison compared =
-        stezkoun_compare(table, sizeof table, result, sizeof result, 2, 6);
-    printf("rows 2 and 6: %s\n", relations[compared.relation]);
+    if (print_relations(table, result, sizeof result)) return 1;
 
     struct stezkoun_listing listed =
         stezkoun_why(table, sizeof table, result, sizeof result, 8, list, sizeof list);
     if (print_answer("why", listed.answer)) return 1;
     fwrite(list, 1, listed.length, stdout);
 
-    /* With the pointer anywhere from 0, as instruction 3 has it, the last read may no longer
-       pass the store. */
+    /* With the pointer anywhere from 0, as instruction 3 has it, row 2 may be 7, and the last read
+       no longer passes the store. */
     put_row(wide, VAR, 0, 0, 0, 0, 250, 3);
     struct stezkoun_answer edited =
         stezkoun_edit(table, sizeof table, result, sizeof result, 0, wide, sizeof wide);
     if (print_answer("edit", edited)) return 1;
     print_rows(result);
-    return 0;
+    return print_relations(table, result, sizeof result);
 }

@@ -1,4 +1,4 @@
-// The number that an argument of a program gives.
+// The numbers that the arguments of a program give.
 ghost use mathlib.Core.Path.{_≡_};
 ghost use Rattle.argument.specs.Argument.{isDigit, numberOf};
 
@@ -9,7 +9,7 @@ pub enum Parsed {
 }
 
 // the digits that a number of 64 bits has at most, and the largest such number
-pub const DIGITS: usize = 20;
+const DIGITS: usize = 20;
 
 const MOST: u64 = 0xffff_ffff_ffff_ffff;
 
@@ -47,4 +47,12 @@ pub fn number(word: &[u8]) -> Parsed
         i += 1;
     }
     Parsed::Number(value)
+}
+
+// The number that argument i of the program gives; argument 0 is the program's name. One that is missing, or longer than the buffer, comes as an
+// empty one.
+pub fn number_at(i: usize) -> Parsed {
+    let mut word = [0u8; DIGITS];
+    let size = os::arg(i, &mut word);
+    number(&word[..size])
 }

@@ -11,10 +11,12 @@ use Rattle.range.specs.Range as range
 use Rattle.bytes.specs.Numbers.{bytes}
 use Rattle.row.specs.Bytes.{bytesOf}
 use Rattle.term.specs.Term.{Term, rowOf}
+use Rattle.term.specs.Relation.{relationNumber}
 use Rattle.term.specs.Bytes.{edited}
 use Rattle.simplify.specs.declared.Answer.{Answer}
 use Rattle.simplify.specs.Run.{runAnswer, runResult}
 use Rattle.simplify.specs.Edit.{editAnswer, editTable, editKept}
+use Rattle.question.specs.Ask.{askRelation, askAnswer}
 
 pub data Case : Type 0 where
   -- at a width, the pieces of a range plus a range
@@ -29,6 +31,8 @@ pub data Case : Type 0 where
   edits : ℕ → List Term → ℕ → Term → List Term → ℕ → ℕ → Case
   -- the same, where the edit is refused: number, row
   refuses : ℕ → List Term → ℕ → Term → ℕ → ℕ → Case
+  -- at a width, a table, a kept result and two row numbers: what a question answers: number, row, and document 01's number of what is known
+  asks : ℕ → List Term → List Term → ℕ → ℕ → ℕ → ℕ → ℕ → Case
 
 samePieces : List Piece → List Piece → Bool
 samePieces [] [] = true
@@ -85,14 +89,18 @@ refusesBy t r x number row =
     let kept = runResult t (room t) in
     answers (editAnswer t kept r x) number row 0 0 && sameBytes (editTable t kept r x) t && sameBytes (editKept t kept r x) kept
 
+asksTo : List ℕ → List ℕ → ℕ → ℕ → ℕ → ℕ → ℕ → Bool
+asksTo t kept x y number row known = answers (askAnswer t kept x y .answer) number row 0 0 && eqb (relationNumber (askRelation t kept x y)) known
+
 unfoldable pub holds : Case → Bool
-unfolding samePieces sameBytes answers recorded replaced patched rowsOf tableOf room runsTo editsTo refusesBy
+unfolding samePieces sameBytes answers recorded replaced patched rowsOf tableOf room runsTo editsTo refusesBy asksTo
 holds (plus w a b ps) = samePieces (pieces (2 ^ w) (range.sum (2 ^ w) a b)) ps
 holds (negated w a ps) = samePieces (pieces (2 ^ w) (negation (2 ^ w) a)) ps
 holds (gathered ps qs) = samePieces (fewest (union ps)) qs
 holds (runs w t f removed touched) = runsTo (tableOf recorded w t) (tableOf recorded w f) removed touched
 holds (edits w t r x f removed touched) = editsTo (tableOf recorded w t) r (bytesOf (rowOf x) replaced) (tableOf (patched r) w f) removed touched
 holds (refuses w t r x number row) = refusesBy (tableOf recorded w t) r (bytesOf (rowOf x) replaced) number row
+holds (asks w t kept x y number row known) = asksTo (tableOf recorded w t) (tableOf recorded w kept) x y number row known
 
 unfoldable pub allHold : List Case → Bool
 allHold [] = true

@@ -1,21 +1,23 @@
--- P1 to P10, with ranges in two pieces (document 02, A5), and registers seen twice (A2).
+-- P1 to P10, with ranges in two pieces (document 02, A5), registers seen twice (A2), and questions about a kept result (A6).
 use Prim.Native.Nat.{_-_, _^_}
 use mathlib.Core.List.{List, [], _∷_}
 use Rattle.pieces.specs.Pieces.{piece}
 use Rattle.range.specs.Range.{span, point}
 use Rattle.term.specs.Term.{Term, const, var, shift, diff, read, fresh, write}
-use Rattle.cases.specs.Case.{Case, plus, negated, gathered, runs, edits, refuses}
+use Rattle.cases.specs.Case.{Case, plus, negated, gathered, runs, edits, refuses, asks}
 
 -- the table of P1
 unfoldable pub p1 : List Term
 p1 = var 0 200 250 ∷ fresh ∷ shift 0 248 ∷ const 7 ∷ write 1 2 3 ∷ shift 0 224 ∷ shift 5 24 ∷ read 4 6 ∷ read 4 7 ∷ []
 
+-- its fresh result
+unfoldable pub p1Result : List Term
+p1Result = var 0 200 250 ∷ fresh ∷ shift 0 248 ∷ const 7 ∷ write 1 2 3 ∷ shift 0 224 ∷ shift 0 248 ∷ const 7 ∷ read 1 7 ∷ []
+
 unfoldable pub cases : List Case
 cases =
     -- P1
-    runs 8 p1
-    (var 0 200 250 ∷ fresh ∷ shift 0 248 ∷ const 7 ∷ write 1 2 3 ∷ shift 0 224 ∷ shift 0 248 ∷ const 7 ∷ read 1 7 ∷ [])
-    1 9 ∷
+    runs 8 p1 p1Result 1 9 ∷
     -- P2
     edits 8 p1 0 (var 0 0 250)
     (var 0 0 250 ∷ fresh ∷ shift 0 248 ∷ const 7 ∷ write 1 2 3 ∷ shift 0 224 ∷ shift 0 248 ∷ const 7 ∷ read 4 7 ∷ [])
@@ -93,4 +95,17 @@ cases =
     edits 8 (var 3 0 9 ∷ var 3 0 9 ∷ var 3 0 9 ∷ []) 1 (var 4 0 9)
     (var 3 0 9 ∷ var 4 0 9 ∷ shift 0 0 ∷ [])
     0 1 ∷
+    -- A6: P1 with its own kept result: the same; separate ranges; other offsets on a shared base; not known
+    asks 8 p1 p1Result 2 6 0 0 1 ∷
+    asks 8 p1 p1Result 2 7 0 0 2 ∷
+    asks 8 p1 p1Result 0 2 0 0 2 ∷
+    asks 8 p1 p1Result 7 8 0 0 0 ∷
+    -- A6: rows that are arrays, the first number first; a number that is not below n
+    asks 8 p1 p1Result 1 1 14 1 0 ∷
+    asks 8 p1 p1Result 1 4 14 1 0 ∷
+    asks 8 p1 p1Result 2 4 14 4 0 ∷
+    asks 8 p1 p1Result 1 9 7 0 0 ∷
+    -- A6: of a kept result that is not the table's own, the rows as they stand; one of other sorts, which goes before 14
+    asks 8 p1 p1 2 6 0 0 0 ∷
+    asks 8 p1 (const 0 ∷ const 0 ∷ const 0 ∷ const 0 ∷ const 0 ∷ const 0 ∷ const 0 ∷ const 0 ∷ const 0 ∷ []) 1 4 16 0 0 ∷
     []

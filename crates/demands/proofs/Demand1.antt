@@ -1,19 +1,20 @@
--- Demand 1, of bytes: a refusal changes no lent byte, and its counts are 0. That a number is given exactly when its reason is the first that holds is said by the
--- definitions of the verdicts, lists of reasons in their order, and proved of the check in `table/proofs/Exactly.antt`
--- and of `why` in `WhyRefusals.antt`.
+-- Demand 1, of bytes: a refusal changes no lent byte, and its counts are 0; a question only reads, and its counts are always 0. That a number is given
+-- exactly when its reason is the first that holds is said by the definitions of the verdicts, lists of reasons in their order, and proved of the check
+-- in `table/proofs/Exactly.antt`, of a question in `AskRefusals.antt` and of `why` in `WhyRefusals.antt`.
 use Prim.Native.Nat.{ℕ}
-use mathlib.Core.Path.{_≡_}
+use mathlib.Core.Path.{_≡_, refl}
 use mathlib.Core.Bool.{false}
 use mathlib.Core.List.{List}
 use lib.ListN.{length}
 use borrow.Author.Tests.{eq-eqb, ne-eqb}
 use Rattle.basis.proofs.Pick.{pick-true, pick-false, or-true-right, or-false}
+use Rattle.term.specs.declared.Relation.the-variants.{Unknown}
 use Rattle.judge.specs.Verdict.{isAccepted}
 use Rattle.judge.specs.Run.{runVerdict}
 use Rattle.simplify.specs.Answer.{answer, answered}
 use Rattle.simplify.specs.Run.{runAnswer, runResult}
 use Rattle.simplify.specs.Edit.{editVerdict, editAnswer, editTable, editKept}
-use Rattle.simplify.specs.Compare.{compareVerdict, compareResult}
+use Rattle.question.specs.Ask.{askVerdict, askRelation, askAnswer, compared}
 use Rattle.explanation.specs.Why.{listOf, whyVerdict, isMeasured, whyAnswer, whyResult, whyList}
 
 module _ (t buffer : List ℕ) (refused : isAccepted (runVerdict t buffer) ≡ false) where
@@ -38,10 +39,15 @@ module _ (t kept : List ℕ) (r : ℕ) (new : List ℕ) (refused : isAccepted (e
   unfolding editAnswer answered
   edit-counts-nothing = rw refused
 
-module _ (t buffer : List ℕ) (x y : ℕ) (refused : isAccepted (compareVerdict t buffer x y) ≡ false) where
-  pub compare-changes-nothing : compareResult t buffer x y ≡ buffer
-  unfolding compareResult
-  compare-changes-nothing = pick-false (isAccepted (compareVerdict t buffer x y)) _ _ refused
+-- a question, accepted or refused
+module _ (t kept : List ℕ) (x y : ℕ) where
+  pub ask-counts-nothing : askAnswer t kept x y .answer ≡ answer (askVerdict t kept x y .number) (askVerdict t kept x y .row) 0 0
+  unfolding askAnswer compared
+  ask-counts-nothing = refl
+
+  pub ask-tells-nothing : isAccepted (askVerdict t kept x y) ≡ false → askRelation t kept x y ≡ Unknown
+  unfolding askRelation
+  ask-tells-nothing refused = pick-false (isAccepted (askVerdict t kept x y)) _ _ refused
 
 module _ (t buffer : List ℕ) (x : ℕ) (space : List ℕ) (refused : isAccepted (whyVerdict t buffer x space) ≡ false) where
   pub why-changes-no-result : whyResult t buffer x space ≡ buffer

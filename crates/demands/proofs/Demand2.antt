@@ -1,13 +1,13 @@
 -- Demand 2, of bytes: under every permitted choice each row of the result that a fresh run leaves means what its original means; its range holds that value;
--- rows that a comparison reports same are equal, and rows that it reports apart differ. Nothing is assumed but "accepted" and "permitted", and for every
--- accepted table there is a permitted choice.
+-- rows that a question about the table's own kept result reports same are equal, rows that it reports apart differ, and the reason that it gives is true.
+-- Nothing is assumed but "accepted", "own" and "permitted", and for every accepted table there is a permitted choice.
 use Prim.Native.Nat.{ℕ, _<_}
 use lib.Pow.{pow-pos}
-use mathlib.Core.Path.{_≡_, ap, sym, fun-ext, _∙_}
+use mathlib.Core.Path.{_≡_, ap, fun-ext, subst, _∙_}
 use mathlib.Core.Bool.{true}
 use mathlib.Core.List.{List}
 use lib.ListN.{length, take}
-use Rattle.basis.proofs.Pick.{pick-true}
+use Rattle.basis.proofs.Pick.{pick-case, pick-true}
 use Rattle.range.specs.Range.{Within, Proper}
 use Rattle.table.specs.Refusals.{width}
 use Rattle.table.specs.Accepted.{Accepted}
@@ -15,10 +15,13 @@ use Rattle.table.proofs.Accepts.{accepted-gives}
 use Rattle.term.specs.declared.Relation.the-variants.{Same, Apart}
 use Rattle.term.specs.Term.{Term}
 use Rattle.term.specs.Relation.{rangeOf}
+use Rattle.term.specs.Result.{result}
 use Rattle.term.specs.WellFormed.{WellFormed}
 use Rattle.term.specs.Bytes.{look}
 use Rattle.term.proofs.Accepted.{accepted-formed, accepted-one}
 use Rattle.meaning.specs.Meaning.{Choice, Permitted, value, content}
+use Rattle.meaning.proofs.Relations.{Says}
+use Rattle.meaning.proofs.Reasons.{Explains}
 use Rattle.meaning.proofs.Demand2 as rules
 use Rattle.meaning.proofs.Choices.{least, choice-exists}
 use Rattle.judge.specs.Verdict.{isAccepted}
@@ -26,10 +29,10 @@ use Rattle.judge.specs.Run.{runVerdict}
 use Rattle.judge.proofs.Granted.{run-granted}
 use Rattle.simplify.specs.Answer.{modulus, LIMIT}
 use Rattle.simplify.specs.Run.{freshRows, runResult}
-use Rattle.simplify.specs.Compare.{compareVerdict, freshRelation, compareAnswer}
-use Rattle.simplify.proofs.Granted.{compare-granted}
-use Rattle.demands.specs.Own.{rowsIn}
+use Rattle.question.specs.Ask.{askVerdict, keptRows, askRelation, askReason}
+use Rattle.demands.specs.Own.{rowsIn, Own}
 use Rattle.demands.proofs.Fresh.{fresh-look}
+use Rattle.demands.proofs.Owned.{own-accepted, part-rows}
 
 pub formed : (t : List ℕ) → Accepted t → WellFormed (modulus t) (look t)
 unfolding modulus
@@ -77,21 +80,31 @@ module _ (t buffer : List ℕ) (granted : isAccepted (runVerdict t buffer) ≡ t
     unfolding freshRows
     ranges-hold x = rw rows-left (rules.run-range-in (modulus t) LIMIT (positive t) (look t) (formed t ok) choice permitted x)
 
--- a comparison of rows x and y, accepted
-module _ (t buffer : List ℕ) (x y : ℕ) (granted : isAccepted (compareVerdict t buffer x y) ≡ true) (choice : Choice) (permitted : Permitted (modulus t) (look t) choice) where
-  compared-ok : Accepted t
-  compared-ok = accepted-gives t (compare-granted t buffer x y granted .table)
+-- a question about rows x and y of the table's own kept result. (Where it is refused, nothing is said of them.)
+module _ (t kept : List ℕ) (own : Own t kept) (x y : ℕ) (choice : Choice) (permitted : Permitted (modulus t) (look t) choice) where
+  rows-are : keptRows t kept ≡ result (modulus t) LIMIT (look t)
+  unfolding keptRows freshRows
+  rows-are = part-rows t kept own
 
-  told : compareAnswer t buffer x y .relation ≡ freshRelation t x y
-  unfolding compareAnswer
-  told = pick-true (isAccepted (compareVerdict t buffer x y)) _ _ granted
+  abbrev has : ℕ → ℕ
+  has = value (modulus t) choice (look t)
 
-  pub same-are-equal : compareAnswer t buffer x y .relation ≡ Same → value (modulus t) choice (look t) x ≡ value (modulus t) choice (look t) y
-  unfolding freshRelation freshRows
-  same-are-equal e =
-      rules.compare-same (modulus t) LIMIT (positive t) (look t) (formed t compared-ok) choice permitted x y (sym told ∙ e)
+  relation-told : Says (askRelation t kept x y) (has x) (has y)
+  unfolding askRelation
+  relation-told =
+      pick-case (λ known. Says known (has x) (has y)) (isAccepted (askVerdict t kept x y))
+      (λ e. rw rows-are (rules.compare-says (modulus t) LIMIT (positive t) (look t) (formed t (own-accepted t kept own)) choice permitted x y))
+      (λ e. tt)
 
-  pub apart-differ : compareAnswer t buffer x y .relation ≡ Apart → value (modulus t) choice (look t) x ≡ value (modulus t) choice (look t) y → ⊥
-  unfolding freshRelation freshRows
-  apart-differ e =
-      rules.compare-apart (modulus t) LIMIT (positive t) (look t) (formed t compared-ok) choice permitted x y (sym told ∙ e)
+  pub same-are-equal : askRelation t kept x y ≡ Same → value (modulus t) choice (look t) x ≡ value (modulus t) choice (look t) y
+  same-are-equal e = subst (λ known. Says known (has x) (has y)) e relation-told
+
+  pub apart-differ : askRelation t kept x y ≡ Apart → value (modulus t) choice (look t) x ≡ value (modulus t) choice (look t) y → ⊥
+  apart-differ e = subst (λ known. Says known (has x) (has y)) e relation-told
+
+  pub reason-told-true : Explains (modulus t) (askReason t kept x y) (value (modulus t) choice (look t) x) (value (modulus t) choice (look t) y)
+  unfolding askReason
+  reason-told-true =
+      pick-case (λ why. Explains (modulus t) why (has x) (has y)) (isAccepted (askVerdict t kept x y))
+      (λ e. rw rows-are (rules.reason-true (modulus t) LIMIT (positive t) (look t) (formed t (own-accepted t kept own)) choice permitted x y))
+      (λ e. tt)

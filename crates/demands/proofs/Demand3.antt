@@ -33,14 +33,10 @@ use Rattle.simplify.specs.Edit.{editVerdict, isTouched, editedRows, editedBytes
 use Rattle.simplify.proofs.Granted.{EditGranted, edit-granted}
 use Rattle.demands.specs.Own.{Own, Edits, none, one}
 use Rattle.simplify.proofs.FreshRun.{fresh-length}
-use Rattle.demands.proofs.Fresh.{fresh-head, fresh-there, fresh-again}
+use Rattle.demands.proofs.Fresh.{run-leaves, fresh-head, fresh-there, fresh-again}
 use Rattle.demands.proofs.EditIsRun.{edited-bytes}
 
 -- an accepted run leaves the fresh result, which is the table's own
-pub run-leaves : (t buffer : List ℕ) → isAccepted (runVerdict t buffer) ≡ true → runResult t buffer ≡ freshBytes t buffer
-unfolding runResult
-run-leaves t buffer granted = pick-true (isAccepted (runVerdict t buffer)) _ _ granted
-
 fresh-owned : (t buffer : List ℕ) → checkTable t ≡ accepted → length t ≤ length buffer → Own t (freshBytes t buffer)
 fresh-owned t buffer passes room =
     let ok : Accepted t = accepted-gives t passes in
@@ -116,13 +112,8 @@ module _ (t kept : List ℕ) (r : ℕ) (replacement : List ℕ) (granted : isAcc
       (λ (h : isTouched t e r x ≡ false). h))
 
   module _ (own : Own t kept) where
-    settled : freshBytes t kept ≡ kept
-    settled = sym (run-leaves t kept (own .accepted)) ∙ own .settled
-
     fresh-left : editKept t kept r replacement ≡ freshBytes e kept
-    fresh-left =
-        kept-left ∙
-        edited-bytes t kept r replacement (is .ready .long) (accepted-gives t (run-granted t kept (own .accepted) .table)) ok (is .ready .roomy .room) settled
+    fresh-left = kept-left ∙ edited-bytes t kept r replacement (is .ready .long) own ok
 
     room : length e ≤ length kept
     room = rw edited-long (is .ready .roomy .room)

@@ -3,10 +3,10 @@ use Prim.Native.Nat.{ℕ}
 use mathlib.Core.Path.{_≡_, sym, _∙_}
 use mathlib.Core.List.{List}
 use Rattle.simplify.specs.declared.Answer.{Answer}
-use Rattle.simplify.specs.declared.Comparison.{Comparison}
 use Rattle.simplify.specs.Run.{Ran}
 use Rattle.simplify.specs.Edit.{Edited}
-use Rattle.simplify.specs.Compare.{Compared}
+use Rattle.question.specs.declared.Comparison.{Comparison}
+use Rattle.question.specs.Ask.{askAnswer}
 use Rattle.explanation.specs.declared.Listing.{Listing}
 use Rattle.explanation.specs.Why.{Explained}
 
@@ -17,9 +17,9 @@ pub edit-determined : {t kept : List ℕ} {r : ℕ} {new : List ℕ} {a a′ : A
     Edited t kept r new a table left → Edited t kept r new a′ table′ left′ → (a ≡ a′) × (table ≡ table′) × (left ≡ left′)
 edit-determined p q = (p .answer-is ∙ sym (q .answer-is), p .table-is ∙ sym (q .table-is), p .kept-is ∙ sym (q .kept-is))
 
-pub compare-determined : {t buffer : List ℕ} {x y : ℕ} {a a′ : Comparison} {left left′ : List ℕ} →
-    Compared t buffer x y a left → Compared t buffer x y a′ left′ → (a ≡ a′) × (left ≡ left′)
-compare-determined p q = (p .answer-is ∙ sym (q .answer-is), p .result-is ∙ sym (q .result-is))
+-- a question's promise is that one equation
+pub ask-determined : (t kept : List ℕ) (x y : ℕ) {a a′ : Comparison} → a ≡ askAnswer t kept x y → a′ ≡ askAnswer t kept x y → a ≡ a′
+ask-determined t kept x y p q = p ∙ sym q
 
 pub why-determined : {t buffer : List ℕ} {x : ℕ} {space : List ℕ} {a a′ : Listing} {left left′ listed listed′ : List ℕ} →
     Explained t buffer x space a left listed → Explained t buffer x space a′ left′ listed′ → (a ≡ a′) × (left ≡ left′) × (listed ≡ listed′)

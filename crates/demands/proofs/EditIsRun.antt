@@ -1,5 +1,5 @@
 -- An edit of a table with its own kept result leaves what a fresh run of the edited table leaves.
-use Prim.Native.Nat.{ℕ, _^_, _≤_, _<_}
+use Prim.Native.Nat.{ℕ, _^_, _<_}
 use mathlib.Core.Path.{_≡_, refl, ap, ap₂, sym, fun-ext, _∙_}
 use mathlib.Core.Bool.{true, false}
 use mathlib.Core.Logic.{inl}
@@ -24,15 +24,15 @@ use Rattle.term.proofs.Placed.{put-rows-same}
 use Rattle.term.proofs.There.{rowBytes, rows-alike}
 use Rattle.term.proofs.Accepted.{accepted-formed}
 use Rattle.term.proofs.Acceptable.{same-width, same-rows}
-use Rattle.term.proofs.Outcome.{run-look}
-use Rattle.judge.specs.Edit.{keptPart}
+use Rattle.judge.specs.Kept.{keptPart}
 use Rattle.simplify.specs.Answer.{modulus, LIMIT}
 use Rattle.simplify.specs.Run.{freshRows, freshBytes}
 use Rattle.simplify.specs.Edit.{isTouched, editedRows, editedBytes}
-use Rattle.demands.proofs.Fresh.{head-there, fresh-head, fresh-there}
+use Rattle.demands.specs.Own.{Own}
+use Rattle.demands.proofs.Fresh.{head-there, fresh-there}
+use Rattle.demands.proofs.Owned.{own-accepted, own-room, own-fresh, own-head, part-rows}
 
-module _ (t kept : List ℕ) (r : ℕ) (new : List ℕ) (long : length new ≡ LENGTH) (ok : Accepted t) (ok′ : Accepted (edited t r new)) (room : length t ≤ length kept)
-    (own : freshBytes t kept ≡ kept) where
+module _ (t kept : List ℕ) (r : ℕ) (new : List ℕ) (long : length new ≡ LENGTH) (own : Own t kept) (ok′ : Accepted (edited t r new)) where
   abbrev pub e : List ℕ
   e = edited t r new
 
@@ -56,25 +56,15 @@ module _ (t kept : List ℕ) (r : ℕ) (new : List ℕ) (long : length new ≡ L
   modulus-same = ap (λ (w : ℕ). 2 ^ w) (same-width e t same-head)
 
   below : NamesBelow (look t)
-  below = formed-below (2 ^ width t) (look t) (accepted-formed t ok)
+  below = formed-below (2 ^ width t) (look t) (accepted-formed t (own-accepted t kept own))
 
   below′ : NamesBelow (look e)
   below′ = formed-below (2 ^ width e) (look e) (accepted-formed e ok′)
 
-  kept-head : take HEADER kept ≡ take HEADER t
-  kept-head = ap (take HEADER) (sym own) ∙ fresh-head t kept ok room
-
-  kept-rows : putRows (λ x. true) (freshRows t) (sourceAt t) (rows t) kept ≡ kept
-  unfolding freshBytes
-  kept-rows = ap (putRows (λ x. true) (freshRows t) (sourceAt t) (rows t)) (sym (head-there t kept kept-head)) ∙ own
-
   -- the rows of the kept result are those of the fresh result
   part-look : (x : ℕ) → look (keptPart e kept) x ≡ freshRows t x
-  unfolding keptPart freshRows modulus
-  part-look x =
-      ap (λ (n : ℕ). look (take (place n) kept) x) rows-same ∙
-      ap (λ (l : List ℕ). look (take (place (rows t)) l) x) (sym kept-rows) ∙
-      run-look LIMIT t kept ok (rw (← ok .head .size) room) kept-head (sourceAt t) x
+  unfolding keptPart
+  part-look x = ap (λ (n : ℕ). look (take (place n) kept) x) rows-same ∙ ap (λ (f : ℕ → Term). f x) (part-rows t kept own)
 
   same-rules : (x : ℕ) → freshRows t x ≡ result (modulus e) LIMIT (look t) x
   unfolding freshRows
@@ -95,11 +85,12 @@ module _ (t kept : List ℕ) (r : ℕ) (new : List ℕ) (long : length new ≡ L
   edited-bytes =
       put-rows-same (isTouched t e r) (isTouched t e r) (editedRows t e r kept) (freshRows e) (sourceAt e) (rows e) kept (λ x l. refl) (λ x l. edited-rows x) ∙
       rows-alike (freshRows e) (sourceAt e) (isTouched t e r) (λ x. true) (rows e) kept there ∙
-      ap (putRows (λ x. true) (freshRows e) (sourceAt e) (rows e)) (sym (head-there e kept (kept-head ∙ sym same-head)))
+      ap (putRows (λ x. true) (freshRows e) (sourceAt e) (rows e)) (sym (head-there e kept (own-head t kept own ∙ sym same-head)))
     where
       there : (x : ℕ) → x < rows e → (isTouched t e r x ≡ true → ⊥) → rowBytes kept x ≡ bytesOf (rowOf (freshRows e x)) (sourceAt e x)
       there x l other =
-          ap (λ (b : List ℕ). rowBytes b x) (sym own) ∙ fresh-there t kept ok room x (rw rows-same at l) ∙
+          ap (λ (b : List ℕ). rowBytes b x) (sym (own-fresh t kept own)) ∙
+          fresh-there t kept (own-accepted t kept own) (own-room t kept own) x (rw rows-same at l) ∙
           ap₂ (λ (u : Term) (s : ℕ). bytesOf (rowOf u) s)
           (untouched-fresh x (test-case (isTouched t e r x) (λ h. absurd (other h)) (λ h. h)))
           (same-source x (λ same. other (is-touched-in (look t) (look e) r alike below′ x (inl same))))

@@ -1,4 +1,4 @@
--- What a fresh run leaves: the table's header, and the rows of its result, each in its place. A second run into it changes nothing.
+-- What a fresh run leaves: the table's header, and the rows of its result, each in its place: an accepted table. A second run into it changes nothing.
 use Prim.Native.Nat.{ℕ, _≤_, _<_}
 use native.Mathlib.Omega.{arith}
 use mathlib.Core.Path.{_≡_, refl, ap, sym, _∙_}
@@ -6,6 +6,7 @@ use mathlib.Core.Bool.{true, false}
 use mathlib.Core.List.{List}
 use lib.ListN.{length, take}
 use lib.Seq.{sets, length-sets}
+use Rattle.basis.proofs.Pick.{pick-true}
 use Rattle.row.specs.Names.{HEADER, place}
 use Rattle.row.specs.Bytes.{sourceAt, bytesOf}
 use Rattle.row.proofs.Places.{header-below}
@@ -16,9 +17,15 @@ use Rattle.term.specs.Term.{rowOf}
 use Rattle.term.specs.Bytes.{look, putRows}
 use Rattle.term.proofs.Placed.{put-rows-head}
 use Rattle.term.proofs.There.{rowBytes, rows-there, rows-alike, none-touched}
-use Rattle.term.proofs.Outcome.{run-look}
+use Rattle.term.proofs.Outcome.{run-accepted, run-look}
+use Rattle.judge.specs.Verdict.{isAccepted}
+use Rattle.judge.specs.Run.{runVerdict}
 use Rattle.simplify.specs.Answer.{modulus, LIMIT}
-use Rattle.simplify.specs.Run.{freshRows, freshBytes}
+use Rattle.simplify.specs.Run.{freshRows, freshBytes, runResult}
+
+pub run-leaves : (t buffer : List ℕ) → isAccepted (runVerdict t buffer) ≡ true → runResult t buffer ≡ freshBytes t buffer
+unfolding runResult
+run-leaves t buffer granted = pick-true (isAccepted (runVerdict t buffer)) _ _ granted
 
 -- a header that is there already
 pub head-there : (t kept : List ℕ) → take HEADER kept ≡ take HEADER t → sets kept 0 (take HEADER t) ≡ kept
@@ -31,25 +38,33 @@ module _ (t buffer : List ℕ) (ok : Accepted t) (room : length t ≤ length buf
   header-fits : HEADER ≤ length t
   header-fits = rw size (header-below (rows t))
 
+  -- the header in the buffer, and room for the rows after it
+  head-copied : take HEADER (sets buffer 0 (take HEADER t)) ≡ take HEADER t
+  head-copied = copied-there HEADER t buffer header-fits (let h : HEADER ≤ length t = header-fits in omega arith)
+
+  rows-fit : place (rows t) ≤ length (sets buffer 0 (take HEADER t))
+  rows-fit = rw length-sets (rw (← size) room)
+
   pub fresh-head : take HEADER (freshBytes t buffer) ≡ take HEADER t
   unfolding freshBytes
-  fresh-head =
-      put-rows-head (λ x. true) (freshRows t) (sourceAt t) (rows t) (sets buffer 0 (take HEADER t)) ∙
-      copied-there HEADER t buffer header-fits (let h : HEADER ≤ length t = header-fits in omega arith)
+  fresh-head = put-rows-head (λ x. true) (freshRows t) (sourceAt t) (rows t) (sets buffer 0 (take HEADER t)) ∙ head-copied
 
   -- each row of the fresh result stands there
   pub fresh-there : (x : ℕ) → x < rows t → rowBytes (freshBytes t buffer) x ≡ bytesOf (rowOf (freshRows t x)) (sourceAt t x)
   unfolding freshBytes
   fresh-there x l =
-      rows-there (freshRows t) (sourceAt t) (λ y. true) (rows t) (sets buffer 0 (take HEADER t)) (rw length-sets (rw (← size) room)) x l refl
+      rows-there (freshRows t) (sourceAt t) (λ y. true) (rows t) (sets buffer 0 (take HEADER t)) rows-fit x l refl
 
   -- and is looked up there
   pub fresh-look : (x : ℕ) → look (take (length t) (freshBytes t buffer)) x ≡ freshRows t x
   unfolding freshBytes freshRows modulus
   fresh-look x =
-      rw size
-      (run-look LIMIT t (sets buffer 0 (take HEADER t)) ok (rw length-sets (rw (← size) room))
-      (copied-there HEADER t buffer header-fits (let h : HEADER ≤ length t = header-fits in omega arith)) (sourceAt t) x)
+      rw size (run-look LIMIT t (sets buffer 0 (take HEADER t)) ok rows-fit head-copied (sourceAt t) x)
+
+  -- an accepted table
+  pub fresh-accepted : Accepted (take (length t) (freshBytes t buffer))
+  unfolding freshBytes freshRows modulus
+  fresh-accepted = rw size (run-accepted LIMIT t (sets buffer 0 (take HEADER t)) ok rows-fit head-copied (sourceAt t))
 
 -- a buffer that has the header and the rows of a fresh result: a fresh run into it changes nothing
 pub fresh-again : (t kept : List ℕ) → take HEADER kept ≡ take HEADER t → ((x : ℕ) → x < rows t → rowBytes kept x ≡ bytesOf (rowOf (freshRows t x)) (sourceAt t x)) → freshBytes t kept ≡ kept

@@ -1,10 +1,16 @@
--- The demands, of bytes. `Demand1`, `Demand2`, `Demand3`, `Names`, `Sources`, `Why`, `WhyRefusals` and `Determined` have what is promised, the others what it rests on.
+-- The demands, of bytes. `Demand1`, `Demand2`, `Demand3`, `OwnKept`, `Ask`, `AskRefusals`, `Names`, `Sources`, `Why`, `WhyRefusals` and `Determined` have
+-- what is promised, the others what it rests on.
 pub mod Fresh
+pub mod Owned
 pub mod EditIsRun
 pub mod Demand1
 pub mod Demand2
 pub mod Demand3
 pub mod OwnKept
+pub mod Judged
+pub mod Before
+pub mod AskRefusals
+pub mod Ask
 pub mod Names
 pub mod Alike
 pub mod Sources

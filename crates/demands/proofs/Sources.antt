@@ -32,18 +32,20 @@ use Rattle.term.proofs.Acceptable.{same-rows}
 use Rattle.term.proofs.Placed.{put-rows-source}
 use Rattle.judge.specs.Verdict.{isAccepted}
 use Rattle.judge.specs.Run.{roomReasons, runVerdict}
-use Rattle.judge.specs.Edit.{keptPart, otherHeader, otherSorts, keptWrong, keptVerdict, editReasons}
-use Rattle.judge.specs.Compare.{pairReasons, arrayReasons, arrayVerdict}
+use Rattle.judge.specs.Kept.{keptPart, otherHeader, otherSorts, keptWrong, keptVerdict}
+use Rattle.judge.specs.Edit.{editReasons}
+use Rattle.judge.specs.Ask.{pairReasons, arrayReasons, arrayVerdict}
 use Rattle.judge.proofs.Granted.{EditReady, edit-ready, RunGranted, run-granted}
 use Rattle.simplify.specs.Answer.{answer}
 use Rattle.simplify.specs.Run.{freshRows, freshBytes, runAnswer, runResult}
 use Rattle.simplify.specs.Edit.{editVerdict, isTouched, editedRows, editedBytes, touchedRows, editAnswer, editTable, editKept}
-use Rattle.simplify.specs.Compare.{compareVerdict, freshRelation, compareAnswer, compareResult}
-use Rattle.simplify.proofs.Granted.{edit-granted, CompareGranted, compare-granted}
+use Rattle.simplify.proofs.Granted.{edit-granted}
+use Rattle.question.specs.Ask.{askVerdict, keptRows, askReason, askAnswer}
 use Rattle.demands.specs.Sources.{AlikeButSources, RowAlike}
+use Rattle.demands.proofs.Fresh.{run-leaves}
 use Rattle.demands.proofs.Alike.{rows-alike, look-alike, head-alike, scan-alike, check-alike, modulus-alike, fresh-alike, part-alike, sets-alike, put-rows-alike, header-alike}
 use Rattle.demands.proofs.Demand1.{edit-counts-nothing}
-use Rattle.demands.proofs.Demand3.{run-leaves, edited-long, edited-head, edited-passes, edited-room, edited-touched, table-left, kept-left}
+use Rattle.demands.proofs.Demand3.{edited-long, edited-head, edited-passes, edited-room, edited-touched, table-left, kept-left}
 
 -- ---- a result row carries the source of its own row of the table
 
@@ -109,21 +111,6 @@ module _ (s t b c : List ℕ) (tables : AlikeButSources s t) (buffers : AlikeBut
       left-alike _ _ verdict-alike
       (λ h. let is : RunGranted s b = run-granted s b h in fresh-left (accepted-gives s (is .table)) (is .roomy .room)) buffers
 
-  module _ (x y : ℕ) where
-    compared-alike : compareVerdict s b x y ≡ compareVerdict t c x y
-    unfolding compareVerdict pairReasons arrayVerdict arrayReasons
-    compared-alike = rw (room-alike, rows-alike s t tables, look-alike s t tables, scan-alike s t tables)
-
-    pub compare-answers-alike : compareAnswer s b x y ≡ compareAnswer t c x y
-    unfolding compareAnswer freshRelation
-    compare-answers-alike = rw (compared-alike, look-alike s t tables, fresh-alike s t tables, rows-alike s t tables, modulus-alike s t tables)
-
-    pub compare-leaves-alike : AlikeButSources (compareResult s b x y) (compareResult t c x y)
-    unfolding compareResult
-    compare-leaves-alike =
-        left-alike _ _ compared-alike
-        (λ h. let is : CompareGranted s b x y = compare-granted s b x y h in fresh-left (accepted-gives s (is .table)) (is .roomy .room)) buffers
-
   -- the part of a kept result
   kept-alike : AlikeButSources (keptPart s b) (keptPart t c)
   unfolding keptPart
@@ -142,6 +129,37 @@ headers-alike s t b c tables parts =
     first-bytes : (l m : List ℕ) → AlikeButSources l m → (i : ℕ) → i < HEADER → byte l i ≡ byte m i
     first-bytes l m same i h = sym (getD-take HEADER l i 0 h) ∙ ap (λ (k : List ℕ). byte k i) (same .header) ∙ getD-take HEADER m i 0 h
 
+-- 16
+kept-judged : (s t b c : List ℕ) → AlikeButSources s t → AlikeButSources b c → (after : Verdict) → keptVerdict s b after ≡ keptVerdict t c after
+unfolding keptVerdict keptWrong otherSorts
+kept-judged s t b c tables parts after =
+    rw (
+      check-alike b c parts,
+      headers-alike s t b c tables parts,
+      look-alike b c parts,
+      look-alike s t tables,
+      rows-alike s t tables,
+    )
+
+-- a question
+module _ (s t b c : List ℕ) (tables : AlikeButSources s t) (results : AlikeButSources b c) (x y : ℕ) where
+  asked-alike : askVerdict s b x y ≡ askVerdict t c x y
+  unfolding askVerdict pairReasons arrayVerdict arrayReasons
+  asked-alike =
+      rw (
+        room-alike s t b c tables results,
+        rows-alike s t tables,
+        look-alike s t tables,
+        scan-alike s t tables,
+        kept-judged s t (keptPart s b) (keptPart t c) tables (kept-alike s t b c tables results),
+      )
+
+  pub ask-answers-alike : askAnswer s b x y ≡ askAnswer t c x y
+  unfolding askAnswer askReason keptRows
+  ask-answers-alike =
+      rw (asked-alike, modulus-alike s t tables, look-alike (keptPart s b) (keptPart t c) (kept-alike s t b c tables results))
+
+-- an edit
 module _ (t u kept held : List ℕ) (r : ℕ) (new brought : List ℕ)
     (tables : AlikeButSources t u) (results : AlikeButSources kept held) (replacements : RowAlike new brought) where
   numbers-alike : editReasons t kept r new ≡ editReasons u held r brought
@@ -153,19 +171,6 @@ module _ (t u kept held : List ℕ) (r : ℕ) (new brought : List ℕ)
   unfolding edited
   edited-alike ready = sets-alike t u r new brought (ready .long) (room-in t (ready .row) (good-head t (ready .roomy .head) .size)) tables replacements
 
-  kept-judged : EditReady t kept r new → keptVerdict (edited t r new) (keptPart t kept) ≡ keptVerdict (edited u r brought) (keptPart u held)
-  unfolding keptVerdict keptWrong otherSorts
-  kept-judged ready =
-      let edits = edited-alike ready in
-      let parts = kept-alike t u kept held tables results in
-      rw (
-        check-alike (keptPart t kept) (keptPart u held) parts,
-        headers-alike (edited t r new) (edited u r brought) (keptPart t kept) (keptPart u held) edits parts,
-        look-alike (keptPart t kept) (keptPart u held) parts,
-        look-alike (edited t r new) (edited u r brought) edits,
-        rows-alike (edited t r new) (edited u r brought) edits,
-      )
-
   edit-judged : editVerdict t kept r new ≡ editVerdict u held r brought
   unfolding editVerdict
   edit-judged =
@@ -174,8 +179,10 @@ module _ (t u kept held : List ℕ) (r : ℕ) (new brought : List ℕ)
       (λ (z : first (editReasons t kept r new) ≡ 0).
       let ready : EditReady t kept r new = edit-ready t kept r new z in
       given-passes _ 0 _ z ∙
-      scan-alike (edited t r new) (edited u r brought) (edited-alike ready) (keptVerdict (edited t r new) (keptPart t kept)) ∙
-      ap (checkRows (edited u r brought)) (kept-judged ready) ∙
+      scan-alike (edited t r new) (edited u r brought) (edited-alike ready) (keptVerdict (edited t r new) (keptPart t kept) accepted) ∙
+      ap (checkRows (edited u r brought))
+      (kept-judged (edited t r new) (edited u r brought) (keptPart t kept) (keptPart u held) (edited-alike ready)
+      (kept-alike t u kept held tables results) accepted) ∙
       sym (given-passes _ 0 _ (sym numbers ∙ z)))
       (λ (n : first (editReasons t kept r new) ≡ 0 → ⊥).
       given-refuses _ 0 _ n ∙ ap (λ (k : ℕ). refuse k 0) numbers ∙ sym (given-refuses _ 0 _ (λ z. n (numbers ∙ z))))

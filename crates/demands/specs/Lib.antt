@@ -1,3 +1,4 @@
 -- What the demands speak of.
 pub mod Own
+pub mod Compare
 pub mod Sources

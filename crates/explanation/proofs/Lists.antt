@@ -1,12 +1,11 @@
 -- The list of one read: what its parts ask, and that its lines are the list.
-use Prim.Native.Nat.{ℕ, suc, _+_, _-_, _*_, _^_, _≤_}
+use Prim.Native.Nat.{ℕ, suc, _+_, _*_, _^_, _≤_}
 use native.Mathlib.Nat.{le-refl}
 use native.Mathlib.Omega.{arith}
 use mathlib.Core.Path.{_≡_, refl, sym, ap, _∙_}
 use mathlib.Core.Bool.{true, true≢false}
 use mathlib.Core.List.{List}
 use lib.ListN.{length}
-use lib.Pow.{pow-pos}
 use Rattle.range.specs.Store.{kept}
 use Rattle.bytes.specs.Numbers.{Read}
 use Rattle.row.specs.declared.Row.{Row}
@@ -35,11 +34,6 @@ read-row x =
     (λ e. absurd (true≢false (sym e))) (λ e. absurd (true≢false (sym e))) (λ e. absurd (true≢false (sym e))) (λ e. absurd (true≢false (sym e)))
     (λ e. absurd (true≢false (sym e))) (λ e. absurd (true≢false (sym e))) (λ e. absurd (true≢false (sym e))) (λ e. refl)
     (λ e. absurd (true≢false (sym e))) (λ k e. absurd (true≢false (sym e)))
-
--- the modulus is one more than the largest word
-pub top-next : (T : List ℕ) {w top : ℕ} → Read (width T) 256 w → top ≡ 2 ^ w - 1 → top + 1 ≡ modulus T
-unfolding modulus
-top-next T {w} told e = rw (← told .is) (omega (arith, e, pow-pos w))
 
 pub list-header : (T R : List ℕ) (r : ℕ) → Listable T R r → HEADER ≤ length T
 list-header T R r given = omega (arith, header-below r, given .room)
@@ -80,10 +74,10 @@ module _ (T R S l : List ℕ) (r : ℕ) (given : Listable T R r) {x : Row} (row 
       few = le-refl LIMIT;
     }
 
-    module _ (top : ℕ) (top-is : top + 1 ≡ modulus T) {m₂ : List ℕ} {end : ℕ}
+    module _ (top : ℕ) (top-is : top + 1 ≡ 2 ^ width T) {m₂ : List ℕ} {end : ℕ}
         (walked : Put m₁ next (lines (top + 1) (look R) (kept S) (sourceAt T) (x .b) LIMIT (x .a)) (256 * LIMIT + 40) m₂ end) where
       pub list-done : {y : Row} {m₃ : List ℕ} {e : ℕ} → Decoded R r y → Put m₂ end (resultLine r y source) 175 m₃ e
           → Put l 0 (listFor (modulus T) LIMIT (look R) (kept S) (sourceAt T) r (rowAt R r) (look T r)) (most (LIMIT + 1)) m₃ e
-      unfolding listFor list
+      unfolding listFor list modulus
       list-done y-is last =
           rw (reads, ← top-is, ← y-is .is, ← recorded .is) (put-then {i = 256 * LIMIT + 156} (put-then head walked (le-refl _)) last (omega arith))

@@ -1,12 +1,8 @@
 // The list of one read.
-ghost use Prim.Native.Nat.{_+_, _*_, _≤_};
-ghost use mathlib.Core.Path.{_≡_};
-ghost use lib.ListN.{length};
+ghost use Prim.Native.Nat.{_+_, _*_};
 ghost use Rattle.range.specs.Store.{kept};
-ghost use Rattle.row.specs.Names.{HEADER};
 ghost use Rattle.row.specs.Bytes.{rowAt, sourceAt};
 ghost use Rattle.simplify.specs.Answer.{LIMIT, modulus};
-ghost use Rattle.table.specs.Refusals.{width};
 ghost use Rattle.term.specs.Bytes.{look};
 ghost use Rattle.term.specs.Walk.{walk};
 ghost use Rattle.text.specs.Text.{Put};
@@ -73,14 +69,6 @@ fn put_walk(
     put_stands(out, next, n)
 }
 
-// The largest word of a table.
-fn top_of(t: &[u8]) -> u64
-    requires { ⌜ HEADER ≤ length (now t) ⌝ ∗ ⌜ width (now t) ≤ 64 ⌝ }
-    ensures { λ top. ⌜ top + 1 ≡ modulus (now (t .entry)) ⌝ }
-{
-    word::top(table::width_of(t))
-}
-
 // Writes the list of READ row r of the table.
 pub fn put_list(out: &mut [u8], table: &[u8], result: &[u8], store: &[u64; 2048], r: usize) -> usize
     requires { ⌜ Listable (now table) (now result) r ⌝ }
@@ -92,7 +80,7 @@ pub fn put_list(out: &mut [u8], table: &[u8], result: &[u8], store: &[u64; 2048]
     let source = Row::source_at(table, r);
     let next = put_read(out, 0, source, r, m, i);
     let j = walks::index_at(result, store, i);
-    let top = top_of(table);
+    let top = listing::top_of(table);
     let end = put_walk(out, next, top, table, result, store, LIMIT, r, i, j, m);
     put_result(out, end, r, Row::decode(result, r), source)
 }

@@ -1,5 +1,6 @@
 -- Each way out of the functions that judge: the number answered is that of the first reason that holds.
 use Prim.Native.Nat.{ℕ, _+_, _≤_, _<_}
+use native.Mathlib.Omega.{arith}
 use mathlib.Core.Path.{_≡_, refl, ap, sym, _∙_}
 use mathlib.Core.Bool.{Bool, true, false, not}
 use mathlib.Core.List.{List, [], _∷_, _++_}
@@ -7,7 +8,7 @@ use lib.ListN.{length}
 use lib.Dec.{leb, eqb}
 use borrow.Author.Tests.{lt-ltb, le-ltb, le-leb, lt-leb, eq-eqb, ne-eqb}
 use Rattle.basis.specs.Reason.{Reason, _when_, first}
-use Rattle.basis.proofs.Pick.{or-true-left, or-true-right, or-false}
+use Rattle.basis.proofs.Pick.{test-case, or-true-left, or-true-right, or-false}
 use Rattle.basis.proofs.Reasons.{numbered, append-skips, append-here, first-here, first-skips}
 use Rattle.row.specs.Names.{HEADER, LENGTH, place}
 use Rattle.row.specs.Bytes.{rowAt}
@@ -22,10 +23,12 @@ use Rattle.term.specs.Term.{isArray}
 use Rattle.term.specs.Bytes.{look}
 use Rattle.term.proofs.Rows.{sort-term}
 use Rattle.judge.specs.Run.{roomReasons, runVerdict}
-use Rattle.judge.specs.Edit.{editReasons, keptWrong, keptVerdict}
-use Rattle.judge.specs.Compare.{pairReasons, arrayReasons, arrayVerdict}
-use Rattle.judge.specs.Judge.{Holding, PairThere, EditThere}
-use Rattle.judge.proofs.Verdicts.{rows-pass, head-numbered}
+use Rattle.judge.specs.Kept.{keptWrong, keptVerdict}
+use Rattle.judge.specs.Edit.{editReasons}
+use Rattle.judge.specs.Ask.{pairReasons, arrayReasons, arrayVerdict}
+use Rattle.judge.specs.Judge.{Holding, KeptThere, PairThere}
+use Rattle.judge.proofs.Verdicts.{rows-pass, rows-after, head-numbered}
+use Rattle.judge.proofs.Right.{kept-stops, kept-goes}
 use Rattle.judge.proofs.Granted.{room-numbered, roomy}
 
 -- a number that is not 0 is the first of any longer list too
@@ -90,7 +93,7 @@ module _ (t kept : List ℕ) (r : ℕ) (new : List ℕ) {number : ℕ} where
       (first-skips 7 (leb (rows t) r) (8 when not (eqb (length new) LENGTH) ∷ []) (lt-leb (rows t) r (rw is at l)) ∙
       first-skips 8 (not (eqb (length new) LENGTH)) [] (ap not (eq-eqb (length new) LENGTH h)))
 
--- 7 of a comparison
+-- 7 of a question
 module _ (t buffer : List ℕ) (x y : ℕ) {number : ℕ} where
   pub pair-room : number ≡ first (roomReasons t buffer) → (number ≡ 0 → ⊥) → number ≡ first (pairReasons t buffer x y)
   unfolding pairReasons
@@ -114,7 +117,7 @@ pub array-told : (t : List ℕ) (x : ℕ) {kind : ℕ} {b : Bool} → kind ≡ r
 unfolding look
 array-told t x e f = f ∙ ap (λ (k : ℕ). eqb (sortOf k) ARRAY) e ∙ sym (sort-term (rowAt t x))
 
--- ---- 14 of a comparison, 16 of an edit
+-- ---- 9 to 15 and 18, then 16, then 14 of a question
 
 accepted-number : accepted .number ≡ 0
 unfolding accepted refuse
@@ -145,19 +148,43 @@ module _ (t : List ℕ) (x y : ℕ) where
   no-array e h f i = sym (rw (sym e ∙ h, sym f ∙ i))
 
 module _ (t part : List ℕ) {b : Bool} (told : b ≡ keptWrong t part) where
-  pub kept-refused : b ≡ true → _≡_ {A = Verdict} (record { number = 16; row = 0 }) (keptVerdict t part)
-  unfolding keptVerdict given refuse first
-  kept-refused e = sym (rw (sym told ∙ e))
+  pub kept-refused : b ≡ true → _≡_ {A = Verdict} (record { number = 16; row = 0 }) (keptVerdict t part accepted)
+  unfolding refuse
+  kept-refused e = sym (kept-stops t part accepted (sym told ∙ e))
 
-  pub kept-passes : b ≡ false → _≡_ {A = Verdict} (record { number = 0; row = 0 }) (keptVerdict t part)
-  unfolding keptVerdict given accepted refuse first
-  kept-passes e = sym (rw (sym told ∙ e))
+  pub kept-passes : b ≡ false → _≡_ {A = Verdict} (record { number = 0; row = 0 }) (keptVerdict t part accepted)
+  unfolding accepted refuse
+  kept-passes e = sym (kept-goes t part accepted (sym told ∙ e))
 
-pub pair-place : {t : List ℕ} {x y : ℕ} → PairThere t x y → place x + LENGTH ≤ length t
-pair-place {t} at = room-in t (at .first-row) (good-head t (at .head) .size)
+module _ (t part : List ℕ) {v : Verdict} (judged : v ≡ checkRows t (keptVerdict t part accepted)) where
+  -- a faulty row, or 16, is given whatever comes after
+  pub both-refused : (after : Verdict) → (v .number ≡ 0 → ⊥) → v ≡ checkRows t (keptVerdict t part after)
+  both-refused after h =
+      test-case (keptWrong t part)
+      (λ (wrong : keptWrong t part ≡ true). judged ∙ ap (checkRows t) (kept-stops t part accepted wrong ∙ sym (kept-stops t part after wrong)))
+      (λ (right : keptWrong t part ≡ false).
+      rows-refused t (judged ∙ ap (checkRows t) (kept-goes t part accepted right)) after h ∙ ap (checkRows t) (sym (kept-goes t part after right)))
 
-pub pair-place-second : {t : List ℕ} {x y : ℕ} → PairThere t x y → place y + LENGTH ≤ length t
-pair-place-second {t} at = room-in t (at .second-row) (good-head t (at .head) .size)
+  -- where neither is, what comes after is the verdict
+  pub both-onward : {after answer : Verdict} → v .number ≡ 0 → answer ≡ after → answer ≡ checkRows t (keptVerdict t part after)
+  unfolding refuse
+  both-onward {after} e f =
+      let z : checkRows t (keptVerdict t part accepted) .number ≡ 0 = ap (λ (u : Verdict). u .number) (sym judged) ∙ e in
+      test-case (keptWrong t part)
+      (λ (wrong : keptWrong t part ≡ true).
+      absurd (omega (arith, ap (λ (u : Verdict). u .number) (sym (kept-stops t part accepted wrong)) ∙ rows-after t (keptVerdict t part accepted) z)))
+      (λ (right : keptWrong t part ≡ false).
+      f ∙ sym (kept-goes t part after right) ∙ sym (rows-pass t (keptVerdict t part accepted) (keptVerdict t part after) z))
 
-pub edit-holding : {t kept : List ℕ} → EditThere t kept → Holding t kept
-edit-holding {t} at = record { size = good-head t (at .head) .size; room = at .room }
+pub kept-holding : {t kept : List ℕ} → KeptThere t kept → Holding t kept
+kept-holding {t} at = record { size = good-head t (at .head) .size; room = at .room }
+
+module _ {t kept : List ℕ} {x y : ℕ} (at : PairThere t kept x y) where
+  pub pair-kept : KeptThere t kept
+  pair-kept = at .there
+
+  pub pair-place : place x + LENGTH ≤ length t
+  pair-place = room-in t (at .first-row) (kept-holding (at .there) .size)
+
+  pub pair-place-second : place y + LENGTH ≤ length t
+  pair-place-second = room-in t (at .second-row) (kept-holding (at .there) .size)

@@ -19,7 +19,7 @@ use Rattle.table.specs.Refusals.{rows, checkTable}
 use Rattle.term.specs.Term.{isArray}
 use Rattle.term.specs.Bytes.{look}
 use Rattle.judge.specs.Verdict.{isAccepted}
-use Rattle.judge.specs.Edit.{keptPart, otherHeader, otherSorts, keptWrong}
+use Rattle.judge.specs.Kept.{keptPart, otherHeader, otherSorts, keptWrong}
 use Rattle.judge.specs.Judge.{Beside, Holding}
 use Rattle.judge.proofs.Verdicts.{accepted-is}
 

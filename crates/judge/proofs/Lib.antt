@@ -3,3 +3,4 @@ pub mod Verdicts
 pub mod Granted
 pub mod Judged
 pub mod KeptJudged
+pub mod Right

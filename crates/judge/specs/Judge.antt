@@ -26,13 +26,13 @@ pub record Holding (t kept : List ℕ) : Type 0 where
   pub size : length t ≡ place (rows t)
   pub room : length t ≤ length kept
 
--- a table whose head passes, and two of its rows
-pub record PairThere (t : List ℕ) (x y : ℕ) : Type 0 where
-  pub head : first (headReasons t) ≡ 0
-  pub first-row : x < rows t
-  pub second-row : y < rows t
-
--- a table whose head passes, and a kept result with room for its result
-pub record EditThere (t kept : List ℕ) : Type 0 where
+-- a table whose head passes, and a kept result that is at least as long
+pub record KeptThere (t kept : List ℕ) : Type 0 where
   pub head : first (headReasons t) ≡ 0
   pub room : length t ≤ length kept
+
+-- the same, and two rows of the table
+pub record PairThere (t kept : List ℕ) (x y : ℕ) : Type 0 where
+  pub there : KeptThere t kept
+  pub first-row : x < rows t
+  pub second-row : y < rows t

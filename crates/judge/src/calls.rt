@@ -1,13 +1,14 @@
-// What a run, an edit and a comparison are refused for.
+// What a run, an edit and a question about two rows are refused for.
 ghost use mathlib.Core.Path.{_≡_};
 ghost use Rattle.basis.specs.Reason.{first};
 ghost use Rattle.judge.specs.Run.{roomReasons, runVerdict};
-ghost use Rattle.judge.specs.Edit.{editReasons, keptPart, keptVerdict};
-ghost use Rattle.judge.specs.Compare.{pairReasons, arrayVerdict};
-ghost use Rattle.judge.specs.Judge.{Placed, PairThere, EditThere};
+ghost use Rattle.judge.specs.Kept.{keptPart, keptVerdict};
+ghost use Rattle.judge.specs.Edit.{editReasons};
+ghost use Rattle.judge.specs.Ask.{pairReasons, arrayVerdict};
+ghost use Rattle.judge.specs.Judge.{Placed, KeptThere, PairThere};
 ghost use Rattle.term.specs.Term.{isArray};
 ghost use Rattle.term.specs.Bytes.{look};
-ghost use Rattle.table.specs.Refusals.{checkRows};
+ghost use Rattle.table.specs.Refusals.{accepted, checkRows};
 use crate::kept;
 use row::Row;
 use table::Verdict;
@@ -58,11 +59,11 @@ pub fn edit(t: &[u8], kept: &[u8], r: u64, replacement: &[u8]) -> u64
     0
 }
 
-// 1 to 7 of a comparison.
-pub fn pair(t: &[u8], buffer: &[u8], x: u64, y: u64) -> u64
-    ensures { λ n. ⌜ n ≡ first (pairReasons (now (t .entry)) (now (buffer .entry)) x y) ⌝ }
+// 1 to 7 of a question.
+pub fn pair(t: &[u8], kept: &[u8], x: u64, y: u64) -> u64
+    ensures { λ n. ⌜ n ≡ first (pairReasons (now (t .entry)) (now (kept .entry)) x y) ⌝ }
 {
-    let number = room(t, buffer);
+    let number = room(t, kept);
     if number != 0 {
         return number;
     }
@@ -76,6 +77,21 @@ pub fn pair(t: &[u8], buffer: &[u8], x: u64, y: u64) -> u64
     0
 }
 
+// 9 to 15 and 18 of a table as it stands, then 16 of its kept result.
+pub fn with_kept(t: &[u8], kept: &[u8]) -> Verdict
+    requires { ⌜ KeptThere (now t) (now kept) ⌝ }
+    ensures { λ v. ⌜ v ≡ checkRows (now (t .entry)) (keptVerdict (now (t .entry)) (keptPart (now (t .entry)) (now (kept .entry))) accepted) ⌝ }
+{
+    let verdict = scan::check_rows(t);
+    if verdict.number != 0 {
+        return verdict;
+    }
+    if kept::wrong(t, kept) {
+        return Verdict { number: 16, row: 0 };
+    }
+    Verdict { number: 0, row: 0 }
+}
+
 // Whether row x, which is there, is an array.
 pub fn is_array(t: &[u8], x: usize) -> bool
     requires { ⌜ Placed (now t) x ⌝ }
@@ -84,12 +100,12 @@ pub fn is_array(t: &[u8], x: usize) -> bool
     table::is_array(Row::kind_at(t, x))
 }
 
-// 9 to 15 and 18 of a comparison, then 14 for a number that names an array row.
-pub fn words(t: &[u8], x: usize, y: usize) -> Verdict
-    requires { ⌜ PairThere (now t) x y ⌝ }
-    ensures { λ v. ⌜ v ≡ checkRows (now (t .entry)) (arrayVerdict (now (t .entry)) x y) ⌝ }
+// 9 to 15 and 18 of a question, then 16, then 14 for a number that names an array row.
+pub fn words(t: &[u8], kept: &[u8], x: usize, y: usize) -> Verdict
+    requires { ⌜ PairThere (now t) (now kept) x y ⌝ }
+    ensures { λ v. ⌜ v ≡ checkRows (now (t .entry)) (keptVerdict (now (t .entry)) (keptPart (now (t .entry)) (now (kept .entry))) (arrayVerdict (now (t .entry)) x y)) ⌝ }
 {
-    let verdict = scan::check_rows(t);
+    let verdict = with_kept(t, kept);
     if verdict.number != 0 {
         return verdict;
     }
@@ -104,21 +120,6 @@ pub fn words(t: &[u8], x: usize, y: usize) -> Verdict
             number: 14,
             row: y as u64,
         };
-    }
-    Verdict { number: 0, row: 0 }
-}
-
-// 9 to 15 and 18 of an edit, with the replacement in place, then 16.
-pub fn edited(t: &[u8], kept: &[u8]) -> Verdict
-    requires { ⌜ EditThere (now t) (now kept) ⌝ }
-    ensures { λ v. ⌜ v ≡ checkRows (now (t .entry)) (keptVerdict (now (t .entry)) (keptPart (now (t .entry)) (now (kept .entry)))) ⌝ }
-{
-    let verdict = scan::check_rows(t);
-    if verdict.number != 0 {
-        return verdict;
-    }
-    if kept::wrong(t, kept) {
-        return Verdict { number: 16, row: 0 };
     }
     Verdict { number: 0, row: 0 }
 }

@@ -1,7 +1,7 @@
-// 16: whether a kept result can be renewed for an edited table.
+// 16: whether a kept result goes with a table as it stands.
 ghost use mathlib.Core.Path.{_≡_};
 ghost use mathlib.Core.Bool.{Bool·beq, not};
-ghost use Rattle.judge.specs.Edit.{keptPart, otherHeader, otherSorts, keptWrong};
+ghost use Rattle.judge.specs.Kept.{keptPart, otherHeader, otherSorts, keptWrong};
 ghost use Rattle.judge.specs.Judge.{Beside, Holding};
 use crate::calls::is_array;
 use row::Row;
@@ -47,7 +47,7 @@ fn other_sorts(t: &[u8], kept: &[u8]) -> bool
     false
 }
 
-// Whether the part of a kept result that is as long as the edited table t is refused as a table, or does not go with t.
+// Whether the part of a kept result that is as long as the table t is refused as a table, or does not go with t.
 fn part_wrong(t: &[u8], part: &[u8]) -> bool
     requires { ⌜ Beside (now t) (now part) ⌝ }
     ensures { λ r. ⌜ r ≡ keptWrong (now (t .entry)) (now (part .entry)) ⌝ }

@@ -3,8 +3,8 @@ mod calls;
 mod kept;
 
 pub use calls::edit;
-pub use calls::edited;
 pub use calls::pair;
 pub use calls::room;
 pub use calls::run;
+pub use calls::with_kept;
 pub use calls::words;

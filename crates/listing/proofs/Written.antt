@@ -22,11 +22,11 @@ use Rattle.listing.specs.Ready.{Numbered}
 use Rattle.listing.proofs.Short.{store-short}
 
 -- a text, and one that begins with a word
-put-onto : {l m n xs : List ℕ} (word ys : List ℕ) {at p r i j k : ℕ} → Put l at xs i m p → Put m p (word ++ ys) j n r → i + j ≤ k → Put l at (xs ++ word ++ ys) k n r
+pub put-onto : {l m n xs : List ℕ} (word ys : List ℕ) {at p r i j k : ℕ} → Put l at xs i m p → Put m p (word ++ ys) j n r → i + j ≤ k → Put l at (xs ++ word ++ ys) k n r
 put-onto {xs = xs} word ys first second cap = rw (append-assoc xs word ys) (put-then first second cap)
 
 -- .. whose last part ends a line
-put-last : {l m n xs : List ℕ} (word ys zs : List ℕ) {at p r i j k : ℕ} → Put l at xs i m p → Put m p (word ++ ys ++ zs) j n r → i + j ≤ k → Put l at (xs ++ word ++ ys ++ zs) k n r
+pub put-last : {l m n xs : List ℕ} (word ys zs : List ℕ) {at p r i j k : ℕ} → Put l at xs i m p → Put m p (word ++ ys ++ zs) j n r → i + j ≤ k → Put l at (xs ++ word ++ ys ++ zs) k n r
 put-last {xs = xs} word ys zs first second cap = rw (append-assoc xs word ys, append-assoc xs (word ++ ys) zs) (put-then first second cap)
 
 pub labelled-put : {l m n word : List ℕ} {at p r : ℕ} (v : ℕ) → Put l at word (length word) m p → Put m p (decimal v) 20 n r → Put l at (word ++ decimal v) (length word + 20) n r

@@ -8,16 +8,27 @@ use term::Spans;
 use text::put_byte;
 use text::put_decimal;
 use text::put_word;
-ghost use Prim.Native.Nat.{_+_, _<_, _^_};
+ghost use Prim.Native.Nat.{_+_, _<_, _≤_, _^_};
+ghost use mathlib.Core.Path.{_≡_};
 ghost use mathlib.Core.List.{_++_};
 ghost use lib.ListN.{length};
 ghost use Rattle.pieces.specs.Pieces.{piece};
+ghost use Rattle.row.specs.Names.{HEADER};
+ghost use Rattle.table.specs.Refusals.{width};
 ghost use Rattle.text.specs.Text.{ascii, decimal, Put};
 ghost use Rattle.listing.specs.List.{pieceText, rangeText, offsetsText, reasonText, accessText, readLine, storeLine, foundLine, standsLine, resultLine};
 ghost use Rattle.listing.specs.Ready.{Numbered};
 
+// The largest word of a table.
+pub fn top_of(t: &[u8]) -> u64
+    requires { ⌜ HEADER ≤ length (now t) ⌝ ∗ ⌜ width (now t) ≤ 64 ⌝ }
+    ensures { λ top. ⌜ top + 1 ≡ 2 ^ width (now (t .entry)) ⌝ }
+{
+    word::top(table::width_of(t))
+}
+
 // Writes a word and a number.
-fn put_labelled(out: &mut [u8], at: usize, word: &[u8], v: u64) -> usize
+pub fn put_labelled(out: &mut [u8], at: usize, word: &[u8], v: u64) -> usize
     requires { ⌜ at + length (now word) < 2 ^ 62 ⌝ }
     ensures { λ r. ⌜ Put (now (out .entry)) at (now (word .entry) ++ decimal v) (length (now (word .entry)) + 20) (now (out .exit)) r ⌝ }
 {
@@ -133,7 +144,7 @@ fn put_indexes(
 }
 
 // Writes a reason, as the end of a line.
-fn put_why(out: &mut [u8], at: usize, top: u64, why: Reason) -> usize
+pub fn put_why(out: &mut [u8], at: usize, top: u64, why: Reason) -> usize
     requires { ⌜ at < 2 ^ 33 ⌝ }
     ensures { λ r. ⌜ Put (now (out .entry)) at (ascii ", " ++ reasonText (top + 1) why ++ ascii "\n") 197 (now (out .exit)) r ⌝ }
 {

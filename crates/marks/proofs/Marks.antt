@@ -18,7 +18,8 @@ use lib.Pow.{pow-lt, pow-pos}
 use Rattle.basis.specs.Count.{countWhere}
 use Rattle.basis.proofs.Pick.{test-case, or-none}
 use Rattle.basis.proofs.Counts.{count-add, count-same, count-constant, count-most}
-use Rattle.marks.specs.Marks.{isOne, marked, withMark, onesOf, Words, HasBit, Remarked}
+use Rattle.names.proofs.Slots.{zeros}
+use Rattle.marks.specs.Marks.{isOne, marked, noneBeside, withMark, onesOf, Words, HasBit, Remarked}
 use Rattle.marks.proofs.InWord.{one-or, none-of-zero, power-here, power-there, all-ones, ones-counted}
 
 -- the bits that are added
@@ -62,6 +63,11 @@ module _ (marks : List ℕ) (words : Words marks) (x : ℕ) (passed : Bool) (l :
       (λ (t : eqb (y / 64) (x / 64) ≡ false).
       ap (λ (w : ℕ). isOne w (y % 64)) (getD-set-other marks (x / 64) (y / 64) _ 0 (eqb-false (y / 64) (x / 64) t)))
 
+-- where a word has no ones, no row that has its mark there is marked
+pub none-beside : (marks : List ℕ) (x y : ℕ) → noneBeside marks x ≡ true → y / 64 ≡ x / 64 → marked marks y ≡ false
+unfolding noneBeside marked
+none-beside marks x y none same = rw (same, eqb-true (getD marks (x / 64) 0) 0 none) (none-of-zero (y % 64))
+
 -- ---- how many
 
 bits : (marks : List ℕ) (n b : ℕ) → b < 64 → isOne (getD marks n 0) b ≡ marked marks (64 * n + b)
@@ -95,11 +101,6 @@ ones-below marks words n few none =
 
 -- ---- no row marked, and every row
 
-zeros : (n i : ℕ) → _≡_ {A = ℕ} (getD (replicate n 0) i 0) 0
-zeros zero i = refl
-zeros (suc n) zero = refl
-zeros (suc n) (suc i) = zeros n i
-
 pub none-words : Words (replicate 16 0)
 none-words = record { long = length-replicate {A = ℕ} 16 0; fit = λ i. subst (λ (n : ℕ). n < 2 ^ 64) (sym (zeros 16 i)) (pow-pos 64) }
 
@@ -124,6 +125,10 @@ unfolding marked isOne
 test-told marks x =
     ap (λ (k : ℕ). eqb (bitAnd (getD marks (x / 64) 0 / 2 ^ k) 1) 1) (and-mask x 6) ∙
     ap (λ (n : ℕ). eqb n 1) (and-mask (getD marks (x / 64) 0 / 2 ^ (x % 64)) 1)
+
+pub beside-told : (marks : List ℕ) (x : ℕ) → eqb (getD marks (x / 64) 0) 0 ≡ noneBeside marks x
+unfolding noneBeside
+beside-told marks x = refl
 
 shifted : (x : ℕ) (passed : Bool) → boolByte passed * 2 ^ bitAnd x 63 % 2 ^ 64 ≡ added x passed
 shifted x true =

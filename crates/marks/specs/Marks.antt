@@ -17,6 +17,10 @@ isOne word b = eqb (word / 2 ^ b % 2) 1
 unfoldable pub marked : List ℕ → ℕ → Bool
 marked marks x = isOne (getD marks (x / 64) 0) (x % 64)
 
+-- the word that row x has its mark in has no ones
+unfoldable pub noneBeside : List ℕ → ℕ → Bool
+noneBeside marks x = eqb (getD marks (x / 64) 0) 0
+
 -- the marks with row x marked too, where a test passed
 unfoldable pub withMark : List ℕ → ℕ → Bool → List ℕ
 withMark marks x passed = set marks (x / 64) (bitOr (getD marks (x / 64) 0) (cond passed (2 ^ (x % 64)) 0))

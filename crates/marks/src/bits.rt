@@ -2,7 +2,7 @@
 ghost use mathlib.Core.Path.{_≡_};
 ghost use Prim.Native.Nat.{_<_};
 ghost use Rattle.table.specs.Refusals.{MOST};
-ghost use Rattle.marks.specs.Marks.{marked, onesOf, Words, HasBit, Remarked};
+ghost use Rattle.marks.specs.Marks.{marked, noneBeside, onesOf, Words, HasBit, Remarked};
 
 // Whether row x is marked.
 pub fn is_marked(marks: &[u64; 16], x: usize) -> bool
@@ -10,6 +10,14 @@ pub fn is_marked(marks: &[u64; 16], x: usize) -> bool
     ensures { λ r. ⌜ r ≡ marked (now (marks .entry)) x ⌝ }
 {
     (marks[x >> 6] >> (x & 63)) & 1 == 1
+}
+
+// Whether of the sixty-four rows that have their marks in one word with row x none is marked.
+pub fn none_beside(marks: &[u64; 16], x: usize) -> bool
+    requires { ⌜ x < MOST ⌝ }
+    ensures { λ r. ⌜ r ≡ noneBeside (now (marks .entry)) x ⌝ }
+{
+    marks[x >> 6] == 0
 }
 
 // Marks row x where a test passed.

@@ -5,7 +5,6 @@ use Prim.Native.Nat.{ℕ, _<_}
 use mathlib.Core.Path.{_≡_, sym, ap, _∙_, subst}
 use Rattle.range.specs.Range.{Within, Proper}
 use Rattle.term.specs.Term.{Term, statedBy}
-use Rattle.term.specs.declared.Relation.the-variants.{Same, Apart}
 use Rattle.term.specs.Seen.{seen}
 use Rattle.term.specs.Relation.{rangeOf, related}
 use Rattle.term.specs.Walk.{Walk}
@@ -77,14 +76,6 @@ module _ (M limit : ℕ) (pos : 0 < M) (t : ℕ → Term) (formed : WellFormed M
   pub compare-says : (x y : ℕ)
       → Says (related (result M limit t) (rangeOf M (result M limit t)) x y) (value M choice t x) (value M choice t y)
   compare-says = related-says M choice (result M limit t) (meaning M choice t) model (rangeOf M (result M limit t)) run-range-in
-
-  pub compare-same : (x y : ℕ) → related (result M limit t) (rangeOf M (result M limit t)) x y ≡ Same
-      → value M choice t x ≡ value M choice t y
-  compare-same x y e = subst (λ r. Says r (value M choice t x) (value M choice t y)) e (compare-says x y)
-
-  pub compare-apart : (x y : ℕ) → related (result M limit t) (rangeOf M (result M limit t)) x y ≡ Apart
-      → value M choice t x ≡ value M choice t y → ⊥
-  compare-apart x y e = subst (λ r. Says r (value M choice t x) (value M choice t y)) e (compare-says x y)
 
   -- the reason given for two result rows is true of the originals
   pub reason-true : (x y : ℕ)

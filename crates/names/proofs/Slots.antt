@@ -76,7 +76,7 @@ module _ (t : List ℕ) (name n y : ℕ) (search : Searching t name n y) where
 
 -- ---- the slots
 
-zeros : (n i : ℕ) → _≡_ {A = ℕ} (getD (replicate n 0) i 0) 0
+pub zeros : (n i : ℕ) → _≡_ {A = ℕ} (getD (replicate n 0) i 0) 0
 zeros n i =
     dite (decLt i n)
     (λ (l : i < n). getD-replicate n i 0 0 l)

@@ -5,5 +5,6 @@ mod ranges;
 mod turn;
 mod words;
 
+pub use ranges::entry_of;
 pub use turn::rewrite;
 pub use turn::write_row;

@@ -1,6 +1,7 @@
 // Reads one table from standard input, makes a fresh run and prints the result, or why the table is refused.
 use libc::STDIN_FILENO;
-use libc::STDOUT_FILENO;
+use printing::print;
+use printing::print_refusal;
 use row::Row;
 use table::LARGEST;
 ghost use mathlib.Core.Path.{_≡_};
@@ -13,13 +14,6 @@ ghost use Rattle.show.specs.Shown.{Counted};
 
 // rows that one call of the system prints
 const CHUNK: usize = 32;
-
-// Prints the first `size` bytes of a text, and answers whether they were written.
-fn print(text: &[u8], size: usize) -> bool
-    requires { ⌜ size ≤ length (now text) ⌝ }
-{
-    io::write_all(STDOUT_FILENO, &text[..size])
-}
 
 // Prints the lines of `count` rows, from row `from` on, and answers whether they were written.
 fn print_lines(t: &[u8], from: usize, count: usize) -> bool
@@ -55,13 +49,6 @@ fn print_head(width: u64, rows: u64) -> bool {
     let mut out = [0u8; lines::SHORT];
     let size = lines::put_head(&mut out, width, rows);
     print(&out, size)
-}
-
-// Prints a refusal.
-fn print_refusal(number: u64, row: u64) {
-    let mut out = [0u8; lines::SHORT];
-    let size = lines::put_refusal(&mut out, number, row);
-    print(&out, size);
 }
 
 // How many rows an accepted table of so many bytes has: the header is shorter than a row.

@@ -23,8 +23,9 @@ use Rattle.term.specs.Result.{removedRows}
 use Rattle.term.specs.Bytes.{look, edited}
 use Rattle.term.proofs.Acceptable.{same-rows}
 use Rattle.judge.specs.Verdict.{isAccepted}
-use Rattle.judge.specs.Edit.{keptPart, keptWrong, keptVerdict, editReasons}
-use Rattle.judge.specs.Judge.{EditThere}
+use Rattle.judge.specs.Kept.{keptPart, keptWrong, keptVerdict}
+use Rattle.judge.specs.Edit.{editReasons}
+use Rattle.judge.specs.Judge.{KeptThere}
 use Rattle.judge.proofs.Verdicts.{accepted-is, table-passes, head-same}
 use Rattle.judge.proofs.Granted.{EditReady, edit-ready}
 use Rattle.simplify.specs.declared.Answer.{Answer}
@@ -69,7 +70,7 @@ module _ (t kept : List ℕ) (r : ℕ) (new : List ℕ) where
     pub edit-refused : {a : Answer} → (number ≡ 0 → ⊥) → a ≡ answer number 0 0 0 → Edited t kept r new a t kept
     unfolding editVerdict refuse
     edit-refused h is =
-        refused-by (given-refuses _ 0 (checkRows (edited t r new) (keptVerdict (edited t r new) (keptPart t kept))) (λ z. h (numbered ∙ z))) (λ z. h (numbered ∙ z))
+        refused-by (given-refuses _ 0 (checkRows (edited t r new) (keptVerdict (edited t r new) (keptPart t kept) accepted)) (λ z. h (numbered ∙ z))) (λ z. h (numbered ∙ z))
         (is ∙ ap (λ (n : ℕ). answer n 0 0 0) numbered)
 
     module _ (z : number ≡ 0) where
@@ -103,7 +104,7 @@ module _ (t kept : List ℕ) (r : ℕ) (new : List ℕ) where
         head : first (headReasons t′) ≡ 0
         head = head-same t′ t long same-head ∙ ready .roomy .head
 
-        pub judge-asks : EditThere t′ kept
+        pub judge-asks : KeptThere t′ kept
         judge-asks = record { head = head; room = rw long (ready .roomy .room) }
 
         parts : keptPart t kept ≡ keptPart t′ kept
@@ -120,12 +121,12 @@ module _ (t kept : List ℕ) (r : ℕ) (new : List ℕ) where
               ap₂ (λ (l vs : List ℕ). sets l (place r) vs) put (taken ∙ ap (λ (n : ℕ). take n (drop (place r) t)) (sym (ready .long))) ∙
               sets-undone t (place r) new (rw (ready .long) here)
 
-          module _ {v : Verdict} (judged : v ≡ checkRows t′ (keptVerdict t′ (keptPart t′ kept))) where
+          module _ {v : Verdict} (judged : v ≡ checkRows t′ (keptVerdict t′ (keptPart t′ kept) accepted)) where
             verdict-is : editVerdict t kept r new ≡ v
             unfolding editVerdict
             verdict-is =
                 given-passes _ 0 _ (sym numbered ∙ z) ∙
-                ap₂ (λ (l m : List ℕ). checkRows l (keptVerdict l m)) (sym put) parts ∙ sym judged
+                ap₂ (λ (l m : List ℕ). checkRows l (keptVerdict l m accepted)) (sym put) parts ∙ sym judged
 
             pub edited-refused : {t″ : List ℕ} {a : Answer} → (v .number ≡ 0 → ⊥) → t″ ≡ edited t′ r old → a ≡ answer (v .number) (v .row) 0 0 → Edited t kept r new a t″ kept
             edited-refused h restored is = rw (restored ∙ back) (refused-by verdict-is h is)
@@ -138,7 +139,7 @@ module _ (t kept : List ℕ) (r : ℕ) (new : List ℕ) where
               granted = edit-granted t kept r new yes
 
               passes : checkTable t′ ≡ accepted
-              passes = table-passes t′ (keptVerdict t′ (keptPart t′ kept)) head (ap (λ (u : Verdict). u .number) (sym judged) ∙ fine)
+              passes = table-passes t′ (keptVerdict t′ (keptPart t′ kept) accepted) head (ap (λ (u : Verdict). u .number) (sym judged) ∙ fine)
 
               pub edit-patches : CanPatch t′ old kept r
               edit-patches =

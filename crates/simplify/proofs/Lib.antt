@@ -5,6 +5,5 @@ pub mod Renewing
 pub mod Turning
 pub mod Outcome
 pub mod FreshRun
-pub mod Compares
 pub mod Patches
 pub mod Edits

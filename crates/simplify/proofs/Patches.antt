@@ -1,18 +1,13 @@
 -- The rows that an edit works out anew: what the loop asks, and that what it leaves is what the public promise says.
 use Prim.Native.Nat.{ℕ, _^_, _≤_, _<_}
 use native.Mathlib.Nat.{le-refl, le-trans, lt-trans, lt-of-lt-of-le}
-use mathlib.Core.Path.{_≡_, refl, ap, ap₂, sym, subst, _∙_}
-use mathlib.Core.Bool.{Bool, true, false, Bool·beq, not, _||_, true≢false}
+use mathlib.Core.Path.{_≡_, ap, ap₂, sym, subst, _∙_}
 use mathlib.Core.List.{List}
 use lib.ListN.{length, replicate}
-use lib.Dec.{lit<}
-use borrow.Author.Tests.{eqb-true, not-false}
-use Rattle.basis.proofs.Pick.{or-left, or-right}
-use Rattle.basis.proofs.Counts.{any-none}
 use Rattle.row.specs.Names.{HEADER, place}
-use Rattle.bytes.specs.Numbers.{byte, Read}
+use Rattle.bytes.specs.Numbers.{Read}
 use Rattle.row.proofs.Places.{header-below, place-grows}
-use Rattle.table.specs.Refusals.{width, rows, checkTable}
+use Rattle.table.specs.Refusals.{width, rows}
 use Rattle.table.specs.Accepted.{Accepted}
 use Rattle.table.proofs.Accepts.{accepted-gives}
 use Rattle.term.specs.Term.{isArray}
@@ -27,21 +22,14 @@ use Rattle.walks.specs.Ready.{SortsIn}
 use Rattle.marks.specs.Marks.{marked}
 use Rattle.marks.specs.Touched.{CanMark, Marked}
 use Rattle.marks.proofs.Marks.{none-words, none-marked}
-use Rattle.judge.specs.Verdict.{isAccepted}
-use Rattle.judge.specs.Edit.{keptPart, otherHeader, otherSorts, keptWrong}
-use Rattle.judge.proofs.Verdicts.{accepted-only}
+use Rattle.judge.specs.Kept.{keptPart}
+use Rattle.judge.proofs.Right.{right-sorts, right-formed}
 use Rattle.simplify.specs.Answer.{modulus, answer}
 use Rattle.simplify.specs.Renew.{CanRenew, Renewed}
 use Rattle.simplify.specs.Edit.{isTouched, editedRows, editedBytes, touchedRows}
 use Rattle.simplify.specs.Patch.{CanPatch, Patched}
 use Rattle.simplify.proofs.FreshRun.{answer-is}
 use Rattle.simplify.proofs.Outcome.{bytes-are, removed-is}
-
-alike : (a b : Bool) → not (Bool·beq a b) ≡ false → a ≡ b
-alike true true e = refl
-alike true false e = absurd (true≢false e)
-alike false true e = absurd (true≢false e)
-alike false false e = refl
 
 module _ (t old kept : List ℕ) (r : ℕ) (can : CanPatch t old kept r) where
   ok : Accepted t
@@ -53,24 +41,11 @@ module _ (t old kept : List ℕ) (r : ℕ) (can : CanPatch t old kept r) where
   abbrev part : List ℕ
   part = keptPart t kept
 
-  -- the part is accepted as a table, with the table's header
-  sound : not (isAccepted (checkTable part)) || otherHeader t part ≡ false
-  unfolding keptWrong
-  sound = or-left _ (otherSorts t part) (can .right)
-
-  part-ok : Accepted part
-  part-ok = accepted-gives part (accepted-only part (not-false _ (or-left _ (otherHeader t part) sound)))
-
-  same-width : width part ≡ width t
-  unfolding otherHeader width
-  same-width = eqb-true (byte part 2) (byte t 2) (not-false _ (any-none _ HEADER (or-right (not (isAccepted (checkTable part))) _ sound) 2 (lit< tt)))
-
   same-sorts : (x : ℕ) → x < rows t → isArray (look part x) ≡ isArray (look t x)
-  unfolding keptWrong otherSorts
-  same-sorts x l = alike _ _ (any-none _ (rows t) (or-right (not (isAccepted (checkTable part)) || otherHeader t part) _ (can .right)) x l)
+  same-sorts = right-sorts t part (can .right)
 
   part-formed : WellFormed (2 ^ width t) (look part)
-  part-formed = rw same-width at (accepted-formed part part-ok)
+  part-formed = right-formed t part (can .right)
 
   part-look : (x : ℕ) → x < rows t → look kept x ≡ look part x
   unfolding keptPart

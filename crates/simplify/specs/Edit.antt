@@ -7,12 +7,13 @@ use Rattle.basis.specs.Reason.{first}
 use Rattle.basis.specs.Count.{countWhere}
 use Rattle.row.specs.Bytes.{sourceAt}
 use Rattle.table.specs.declared.Verdict.{Verdict}
-use Rattle.table.specs.Refusals.{rows, given, checkRows}
+use Rattle.table.specs.Refusals.{rows, given, accepted, checkRows}
 use Rattle.term.specs.Term.{Term}
 use Rattle.term.specs.Result.{renewed, touchedIn, removedRows}
 use Rattle.term.specs.Bytes.{look, edited, putRows}
 use Rattle.judge.specs.Verdict.{isAccepted}
-use Rattle.judge.specs.Edit.{keptPart, editReasons, keptVerdict}
+use Rattle.judge.specs.Kept.{keptPart, keptVerdict}
+use Rattle.judge.specs.Edit.{editReasons}
 use Rattle.simplify.specs.declared.Answer.{Answer}
 use Rattle.simplify.specs.Answer.{modulus, LIMIT, answered}
 
@@ -20,7 +21,7 @@ use Rattle.simplify.specs.Answer.{modulus, LIMIT, answered}
 unfoldable pub editVerdict : List ℕ → List ℕ → ℕ → List ℕ → Verdict
 editVerdict t kept r replacement =
     given (first (editReasons t kept r replacement)) 0
-    (checkRows (edited t r replacement) (keptVerdict (edited t r replacement) (keptPart t kept)))
+    (checkRows (edited t r replacement) (keptVerdict (edited t r replacement) (keptPart t kept) accepted))
 
 -- from the table as it stood before to the edited table t: the rows that the edit of row r touches
 unfoldable pub isTouched : List ℕ → List ℕ → ℕ → ℕ → Bool

@@ -1,4 +1,4 @@
--- The public promises: what run, edit and compare answer, and what they leave in each lent buffer, for every input.
+-- The public promises: what run and edit answer, and what they leave in each lent buffer, for every input.
 pub mod Answer
 pub mod Renew
 pub mod Copy
@@ -6,4 +6,3 @@ pub mod Run
 pub mod Fresh
 pub mod Edit
 pub mod Patch
-pub mod Compare

@@ -8,7 +8,7 @@ use Rattle.row.specs.Names.{LENGTH, place}
 use Rattle.table.specs.Refusals.{rows, accepted, checkTable}
 use Rattle.term.specs.Result.{removedRows}
 use Rattle.term.specs.Bytes.{look, edited}
-use Rattle.judge.specs.Edit.{keptPart, keptWrong}
+use Rattle.judge.specs.Kept.{keptPart, keptWrong}
 use Rattle.simplify.specs.declared.Answer.{Answer}
 use Rattle.simplify.specs.Answer.{answer}
 use Rattle.simplify.specs.Edit.{editedRows, editedBytes, touchedRows}

@@ -57,7 +57,7 @@ pub fn edit(table: &mut [u8], kept: &mut [u8], row: u64, replacement: &[u8]) -> 
     let mut old = [0u8; Row::LENGTH];
     take_row(table, r, &mut old);
     put_row(table, r, replacement);
-    let verdict = judge::edited(table, kept);
+    let verdict = judge::with_kept(table, kept);
     if verdict.number != 0 {
         put_row(table, r, &old);
         return refused(verdict.number, verdict.row);

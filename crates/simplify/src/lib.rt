@@ -1,18 +1,15 @@
-// Run, edit and compare over lent bytes; and, for the tools that stand on a fresh run, the run itself and the answer of a refusal.
-mod comparing;
+// Run and edit over lent bytes; and, for the tools that stand on a fresh run, the run itself and the answer of a refusal.
 mod copying;
 mod editing;
 mod renew;
 mod running;
 
-pub use comparing::compare;
 pub use copying::copy;
 pub use editing::edit;
 pub use renew::LIMIT;
 pub use running::fresh;
 pub use running::refused;
 pub use running::run;
-use term::Relation;
 
 #[repr(C)]
 pub struct Answer {
@@ -20,9 +17,4 @@ pub struct Answer {
     pub row: u64,
     pub removed: u64,
     pub touched: u64,
-}
-
-pub struct Comparison {
-    pub answer: Answer,
-    pub relation: Relation,
 }

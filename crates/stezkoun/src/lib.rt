@@ -46,20 +46,15 @@ pub extern "C" fn stezkoun_edit(
 }
 
 #[no_mangle]
-pub extern "C" fn stezkoun_compare(
-    table: &[u8],
-    result: &mut [u8],
-    first: u64,
-    second: u64,
-) -> Numbers
-    ensures { λ numbers. ⌜ Told (now (table .entry)) (now (result .entry)) first second numbers (now (result .exit)) ⌝ }
+pub extern "C" fn stezkoun_ask(table: &[u8], kept: &[u8], first: u64, second: u64) -> Numbers
+    ensures { λ numbers. ⌜ Told (now (table .entry)) (now (kept .entry)) first second numbers ⌝ }
 {
-    let told = simplify::compare(table, result, first, second);
+    let told = question::ask(table, kept, first, second);
     let answer = told.answer;
-    let relation = told.relation;
+    let why = told.why;
     Numbers {
         answer: answer,
-        relation: relation_number(relation),
+        relation: relation_number(walks::known_by(why)),
     }
 }
 

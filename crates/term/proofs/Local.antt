@@ -11,27 +11,31 @@ use Rattle.term.specs.declared.Relation.{Relation}
 use Rattle.term.specs.declared.Relation.the-variants.{Same, Apart, Unknown}
 use Rattle.term.specs.Term.{Term, const, var, shift, sum, diff, neg, read, fresh, write}
 use Rattle.term.specs.Base.{Base, nothing, one, sumOf, difference, negative, baseOf, offsetOf, written, base, offset, openRow, openOffset, openTo, openBy, plainOf, plain}
-use Rattle.term.specs.Relation.{rangeBy, rangeDown, rangeOf, related}
+use Rattle.term.specs.Relation.{Rests, rangeBy, rangeDown, rangeOf, related}
 use Rattle.term.specs.Walk.{Walk, found, passed, undecided, ended, step, walkAt, walk}
 use Rattle.term.specs.Rule.{shiftRule, sumRule, negBy, negRule, diffRule, readBy, readRule, skipBy, skipAt, writeRule, rule}
 use Rattle.term.specs.Seen.{firstRow, isLater, byName, seen}
 use Rattle.term.specs.Result.{ruleAt, simplified}
 use Rattle.term.specs.WellFormed.{Names}
-use Rattle.term.proofs.Names.{names-widen}
+use Rattle.term.proofs.Names.{names-widen, names-rest}
 use Rattle.term.proofs.Inside.{BaseIn, WalkIn, base-in, walk-in}
 
--- ranges that agree on the words that a term names give it the same range
-pub range-by-local : (M : ℕ) (g g′ : ℕ → Range) (t : Term) → Names (λ s y. s ≡ false → g y ≡ g′ y) t → rangeBy M g t ≡ rangeBy M g′ t
+-- ranges that agree on the rows that the range of a term is made from give it the same range
+pub range-by-rests : (M : ℕ) (g g′ : ℕ → Range) (t : Term) → Rests (λ y. g y ≡ g′ y) t → rangeBy M g t ≡ rangeBy M g′ t
 unfolding rangeBy
-range-by-local M g g′ (const k) n = refl
-range-by-local M g g′ (var name k h) n = refl
-range-by-local M g g′ (shift a k) n = ap (λ (r : Range). range.sum M r (point k)) (n refl)
-range-by-local M g g′ (sum a b k) n = ap₂ (λ (r q : Range). range.sum M (range.sum M r q) (point k)) (n .0 refl) (n .1 refl)
-range-by-local M g g′ (diff a b k) n = ap₂ (λ (r q : Range). range.sum M (range.sum M r (negation M q)) (point k)) (n .0 refl) (n .1 refl)
-range-by-local M g g′ (neg a k) n = ap (λ (r : Range). range.sum M (point k) (negation M r)) (n refl)
-range-by-local M g g′ (read a b) n = refl
-range-by-local M g g′ fresh n = refl
-range-by-local M g g′ (write a b c) n = refl
+range-by-rests M g g′ (const k) n = refl
+range-by-rests M g g′ (var name k h) n = refl
+range-by-rests M g g′ (shift a k) n = ap (λ (r : Range). range.sum M r (point k)) n
+range-by-rests M g g′ (sum a b k) n = ap₂ (λ (r q : Range). range.sum M (range.sum M r q) (point k)) (n .0) (n .1)
+range-by-rests M g g′ (diff a b k) n = ap₂ (λ (r q : Range). range.sum M (range.sum M r (negation M q)) (point k)) (n .0) (n .1)
+range-by-rests M g g′ (neg a k) n = ap (λ (r : Range). range.sum M (point k) (negation M r)) n
+range-by-rests M g g′ (read a b) n = refl
+range-by-rests M g g′ fresh n = refl
+range-by-rests M g g′ (write a b c) n = refl
+
+-- so do those that agree on all the words that it names
+pub range-by-local : (M : ℕ) (g g′ : ℕ → Range) (t : Term) → Names (λ s y. s ≡ false → g y ≡ g′ y) t → rangeBy M g t ≡ rangeBy M g′ t
+range-by-local M g g′ t n = range-by-rests M g g′ t (names-rest (λ y. g y ≡ g′ y) t n)
 
 step-local : (m a c : ℕ) (on on′ : ℕ → Walk) (known : Relation) → on a ≡ on′ a → step m a c on known ≡ step m a c on′ known
 unfolding step

@@ -5,6 +5,7 @@ use mathlib.Core.Bool.{Bool, true, false, _||_}
 use Rattle.basis.proofs.Pick.{or-left, or-right}
 use Rattle.term.specs.Term.{Term, const, var, shift, sum, diff, neg, read, fresh, write, anyNamed}
 use Rattle.term.specs.WellFormed.{Names}
+use Rattle.term.specs.Relation.{Rests}
 
 -- every row names rows below it
 abbrev pub NamesBelow : (ℕ → Term) → Type 0
@@ -33,6 +34,41 @@ names-both U W (neg a k) n m = (n, m)
 names-both U W (read a b) n m = ((n .0, m .0), (n .1, m .1))
 names-both U W fresh n m = tt
 names-both U W (write a b c) n m = ((n .0, m .0), (n .1, m .1), (n .2, m .2))
+
+-- the range of a term is made from words that it names
+pub names-rest : (U : ℕ → Type 0) (t : Term) → Names (λ s y. s ≡ false → U y) t → Rests U t
+names-rest U (const k) n = tt
+names-rest U (var name k h) n = tt
+names-rest U (shift a k) n = n refl
+names-rest U (sum a b k) n = (n .0 refl, n .1 refl)
+names-rest U (diff a b k) n = (n .0 refl, n .1 refl)
+names-rest U (neg a k) n = n refl
+names-rest U (read a b) n = tt
+names-rest U fresh n = tt
+names-rest U (write a b c) n = tt
+
+-- a larger family of such words
+pub rests-widen : {U W : ℕ → Type 0} (t : Term) → ((y : ℕ) → U y → W y) → Rests U t → Rests W t
+rests-widen (const k) wider n = tt
+rests-widen (var name k h) wider n = tt
+rests-widen (shift a k) wider n = wider a n
+rests-widen (sum a b k) wider n = (wider a (n .0), wider b (n .1))
+rests-widen (diff a b k) wider n = (wider a (n .0), wider b (n .1))
+rests-widen (neg a k) wider n = wider a n
+rests-widen (read a b) wider n = tt
+rests-widen fresh wider n = tt
+rests-widen (write a b c) wider n = tt
+
+pub rests-both : (U W : ℕ → Type 0) (t : Term) → Rests U t → Rests W t → Rests (λ y. U y × W y) t
+rests-both U W (const k) n m = tt
+rests-both U W (var name k h) n m = tt
+rests-both U W (shift a k) n m = (n, m)
+rests-both U W (sum a b k) n m = ((n .0, m .0), (n .1, m .1))
+rests-both U W (diff a b k) n m = ((n .0, m .0), (n .1, m .1))
+rests-both U W (neg a k) n m = (n, m)
+rests-both U W (read a b) n m = tt
+rests-both U W fresh n m = tt
+rests-both U W (write a b c) n m = tt
 
 -- where none of the rows named passes a test, each fails it
 pub none-named : (test : ℕ → Bool) (t : Term) → anyNamed test t ≡ false → Names (λ s y. test y ≡ false) t

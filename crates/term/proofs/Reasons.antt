@@ -1,6 +1,6 @@
 -- Reasons: what is known of two rows is known by the reason; what each one says of the rows; and a shared base is named before ranges.
 use Prim.Native.Nat.{ℕ}
-use mathlib.Core.Path.{_≡_, refl, sym, ap, _∙_}
+use mathlib.Core.Path.{_≡_, refl, sym, _∙_}
 use mathlib.Core.Bool.{Bool, true, false, cond, _&&_, _||_, true≢false}
 use lib.Dec.{eqb}
 use borrow.Author.Tests.{eqb-true, eqb-false, ne-eqb}
@@ -59,11 +59,8 @@ module _ (f : ℕ → Term) (g : ℕ → Range) (x y : ℕ) where
       (λ t. (same-base _ _ s, refl, refl, eqb-false _ _ t)))
       (λ s. pick-case Grounds (disjoint (g x) (g y)) (λ t. (other-base s, refl, refl, t)) (λ t. (other-base s, t)))
 
--- rows and ranges that agree at x and y give the same reason, and so the same relation
+-- rows and ranges that agree at x and y give the same reason
 module _ (f f′ : ℕ → Term) (g g′ : ℕ → Range) (x y : ℕ) (p : f x ≡ f′ x) (q : f y ≡ f′ y) (r : g x ≡ g′ x) (s : g y ≡ g′ y) where
   pub reason-agree : reason f g x y ≡ reason f′ g′ x y
   unfolding reason base offset
   reason-agree = rw (p, q, r, s)
-
-  pub related-agree : related f g x y ≡ related f′ g′ x y
-  related-agree = related-reason f g x y ∙ ap knownBy reason-agree ∙ sym (related-reason f′ g′ x y)

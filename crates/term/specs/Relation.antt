@@ -22,6 +22,18 @@ rangeBy M g (read a b) = full M
 rangeBy M g fresh = full M
 rangeBy M g (write a b c) = full M
 
+-- each row that the range of a term is made from is in U
+abbrev pub Rests : (ℕ → Type 0) → Term → Type 0
+Rests U (const k) = Unit {0}
+Rests U (var name k h) = Unit {0}
+Rests U (shift a k) = U a
+Rests U (sum a b k) = U a × U b
+Rests U (diff a b k) = U a × U b
+Rests U (neg a k) = U a
+Rests U (read a b) = Unit {0}
+Rests U fresh = Unit {0}
+Rests U (write a b c) = Unit {0}
+
 -- the same, followed `deep` references down: rows beyond are taken to range over every word
 unfoldable pub rangeDown : ℕ → (ℕ → Term) → ℕ → ℕ → Range
 rangeDown M f zero x = full M

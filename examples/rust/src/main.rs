@@ -1,5 +1,5 @@
-//! Simplifies table P1, asks why its last read moved, widens its variable and sees what becomes
-//! of the result.
+//! Simplifies table P1, asks the result about pairs of rows and why its last read moved, widens its
+//! variable and sees what becomes of the result and the answers.
 
 use stezkoun::Refusal;
 
@@ -32,6 +32,15 @@ fn print_rows(table: &[u8]) {
     }
 }
 
+/// Asks any number of questions over one result; none runs anything.
+fn print_relations(table: &[u8], result: &[u8]) -> Result<(), Refusal> {
+    for (first, second) in [(2, 6), (0, 2), (2, 7)] {
+        let relation = stezkoun::ask(table, result, first, second)?;
+        println!("rows {first} and {second}: {relation:?}");
+    }
+    Ok(())
+}
+
 fn main() -> Result<(), Refusal> {
     let mut table = include_bytes!("../../p1.table").to_vec();
     let mut result = vec![0; table.len()];
@@ -40,26 +49,31 @@ fn main() -> Result<(), Refusal> {
     println!("run: removed {} touched {}", done.removed, done.touched);
     print_rows(&result);
 
-    let (_, relation) = stezkoun::compare(&table, &mut result, 2, 6)?;
-    println!("rows 2 and 6: {relation:?}");
+    print_relations(&table, &result)?;
 
     let mut room = [0; 512];
     let (done, list) = stezkoun::why(&table, &mut result, 8, &mut room)?;
     println!("why: removed {} touched {}", done.removed, done.touched);
     print!("{}", String::from_utf8_lossy(list));
 
-    // With the pointer anywhere from 0, as instruction 3 has it, the last read may no longer pass
-    // the store.
+    // With the pointer anywhere from 0, as instruction 3 has it, row 2 may be 7, and the last read no
+    // longer passes the store.
     let wide = row(VAR, [0; 3], [0, 250], 3);
     let done = stezkoun::edit(&mut table, &mut result, 0, &wide)?;
     println!("edit: removed {} touched {}", done.removed, done.touched);
     print_rows(&result);
+    print_relations(&table, &result)?;
 
     // A word in the place of the memory: row 4 would write into it.
     let word = row(CONST, [0; 3], [0; 2], 3);
     match stezkoun::edit(&mut table, &mut result, 1, &word) {
         Err(refusal) => println!("refused: {refusal:?}"),
         Ok(_) => unreachable!("a WRITE on a word is refused"),
+    }
+    // A question about the memory and the store: arrays are no words.
+    match stezkoun::ask(&table, &result, 1, 4) {
+        Err(refusal) => println!("refused: {refusal:?}"),
+        Ok(_) => unreachable!("an array row is refused"),
     }
     Ok(())
 }

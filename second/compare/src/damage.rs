@@ -151,5 +151,5 @@ pub fn row_number(random: &mut Random, table: &[u8]) -> u64 {
     if rows > 0 && !random.one_in(20) {
         return random.below(rows) as u64;
     }
-    random.pick(&[rows as u64, rows as u64 + 1, 1024, 65_535, 1 << 32, u64::MAX])
+    random.pick(&[rows as u64, rows as u64 + 1, 1024, 65_535, 65_536, 1 << 32, u64::MAX])
 }

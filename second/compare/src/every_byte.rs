@@ -37,11 +37,14 @@ fn every_byte_of_p1(pair: &mut Pair) {
 
     for mut wrong in spoiled(&table) {
         pair.run(&wrong, &mut kept.clone());
-        pair.compare(&wrong, &mut kept.clone(), 2, 6);
+        pair.ask(&wrong, &kept, [2, 6]);
         pair.why(&wrong, &mut kept.clone(), 8, &mut vec![0x5a; room]);
         pair.edit(&mut wrong, &mut kept.clone(), 5, &table[place(2)]);
     }
     for mut wrong in spoiled(&kept) {
+        for numbers in [[2, 6], [7, 2], [3, 7], [0, 8], [4, 2]] {
+            pair.ask(&table, &wrong, numbers);
+        }
         pair.edit(&mut table.clone(), &mut wrong, 2, &table[place(5)]);
     }
     for row in 0..9 {
@@ -63,6 +66,9 @@ fn every_byte_of_names(pair: &mut Pair) {
 
     for wrong in spoiled(&table) {
         pair.run(&wrong, &mut kept.clone());
+        pair.ask(&wrong, &kept, [1, 3]);
+        // As its own result it has a name on two rows.
+        pair.ask(&table, &wrong, [1, 3]);
         for row in [0, 1, 3, 6] {
             for replacement in replacements {
                 pair.edit(&mut wrong.clone(), &mut kept.clone(), row, replacement);
@@ -70,6 +76,7 @@ fn every_byte_of_names(pair: &mut Pair) {
         }
     }
     for wrong in spoiled(&kept) {
+        pair.ask(&table, &wrong, [1, 3]);
         for replacement in replacements {
             pair.edit(&mut table.clone(), &mut wrong.clone(), 3, replacement);
         }

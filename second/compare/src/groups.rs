@@ -5,13 +5,11 @@ use crate::edited::Edited;
 use crate::meaning::{decoded, World};
 use crate::pair::{hex, Pair};
 use crate::replacement::replacement;
-use crate::{names, pieces, sources, walks};
-use second::bytes::table_bytes;
-use second::{Ref, Relation, Row, Sort, Width};
+use crate::{kept, names, pieces, questions, sources, walks};
+use second::{Row, Width};
 use tables::machine::Stack;
 use tables::random::Random;
 use tables::sources::numbered;
-use tables::wellformed::{rows_of_sorts, Place, Taste};
 use tables::{chain, crossing, machine, wellformed};
 
 /// Evaluation walks arrays step by step, so it is left to small tables.
@@ -31,7 +29,10 @@ pub fn cases(pair: &mut Pair, number: u64) {
     if rows.len() <= MOST_ROWS_EVALUATED {
         keeps_meaning(pair, random, &table, &result);
     }
-    comparisons(pair, random, &table);
+    questions::over_own(pair, random, &table, &result, 4);
+    questions::over_foreign(pair, random, &table, &result);
+    questions::over_twins(pair, random, &table, &result);
+    questions::over_deep(pair, random, number);
     own_edits(pair, random, table.clone(), result.clone());
     for _ in 0..2 {
         foreign_edit(pair, random, &table, &result);
@@ -91,38 +92,6 @@ pub fn keeps_meaning(pair: &mut Pair, random: &mut Random, table: &[u8], result:
     }
 }
 
-pub fn comparisons(pair: &mut Pair, random: &mut Random, table: &[u8]) {
-    let (width, rows) = decoded(table);
-    let words: Vec<Ref> = (0..rows.len()).filter(|row| rows[*row].sort() == Sort::Word).collect();
-    for _ in 0..4 {
-        let mut number = || match random.below(8) {
-            0..=6 if !words.is_empty() => random.pick(&words) as u64,
-            _ => row_number(random, table),
-        };
-        let first = number();
-        let second = number();
-        let second = if random.one_in(12) { first } else { second };
-        let mut slice = result_slice(random, table);
-        let comparison = pair.compare(table, &mut slice, first, second);
-        if comparison.answer.refusal != 0 || rows.len() > MOST_ROWS_EVALUATED {
-            continue;
-        }
-        for _ in 0..2 {
-            let means = World::new(random, width, &rows).words(&rows);
-            let equal = means[first as usize] == means[second as usize];
-            let right = match comparison.relation {
-                Relation::NotKnown => true,
-                Relation::Same => equal,
-                Relation::Apart => !equal,
-            };
-            pair.expect(right, || {
-                let relation = comparison.relation;
-                format!("rows {first} and {second} are not {relation:?}: table {}", hex(table))
-            });
-        }
-    }
-}
-
 /// A chain of edits with the table's own kept result.
 pub fn own_edits(pair: &mut Pair, random: &mut Random, mut table: Vec<u8>, mut kept: Vec<u8>) {
     let behind = if random.one_in(4) { 1 + random.below(60) } else { 0 };
@@ -144,42 +113,15 @@ pub fn own_edits(pair: &mut Pair, random: &mut Random, mut table: Vec<u8>, mut k
             };
             edited.is_a_fresh_run(pair);
             edited.leaves_others(pair);
+            questions::over_own(pair, random, &table, &kept[..table.len()], 1);
         }
     }
 }
 
 /// An edit with a kept result that is not the table's own.
 fn foreign_edit(pair: &mut Pair, random: &mut Random, table: &[u8], result: &[u8]) {
-    let (width, rows) = decoded(table);
-    let sorts: Vec<Sort> = rows.iter().map(|row| row.sort()).collect();
-    let taste = Taste::new(random, width);
-    let others = rows_of_sorts(random, &taste, &sorts);
-    let mut kept = match random.below(13) {
-        0..=3 => numbered(random, width, &others),
-        4 | 5 => table.to_vec(),
-        6 => {
-            let other = numbered(random, width, &others);
-            let mut kept = vec![0; other.len()];
-            second::run(&other, &mut kept);
-            kept
-        }
-        7..=9 => with_other_rows(random, width, result),
-        10 => {
-            let others = wellformed::rows(random, width, rows.len());
-            numbered(random, width, &others)
-        }
-        11 => {
-            let width = random.width();
-            numbered(random, width, &vec![Row::Fresh; rows.len()])
-        }
-        _ => damaged(random, width, result),
-    };
-    if random.one_in(2) {
-        kept = sources::renumbered(random, &kept);
-    }
-    if random.one_in(8) {
-        kept.extend(random.bytes(30));
-    }
+    let (width, _) = decoded(table);
+    let mut kept = kept::foreign(random, table, result);
     let mut table = table.to_vec();
     // Several in turn: the outcome of the first stands when the second is judged.
     for _ in 0..2 {
@@ -190,25 +132,12 @@ fn foreign_edit(pair: &mut Pair, random: &mut Random, table: &[u8], result: &[u8
     }
 }
 
-/// The result with some rows exchanged for others of their sort, each with the number of the old.
-fn with_other_rows(random: &mut Random, width: Width, result: &[u8]) -> Vec<u8> {
-    let (_, mut rows) = decoded(result);
-    let taste = Taste::new(random, width);
-    for _ in 0..rows.len().min(4) {
-        let row = random.below(rows.len());
-        rows[row] = taste.row(random, rows[row].sort(), &Place::of(row, &rows));
-    }
-    table_bytes(width, &rows, &second::bytes::sources(result))
-}
-
 /// Each call on a damaged table, at times with other faults beside it.
 fn damaged_calls(pair: &mut Pair, random: &mut Random, width: Width, table: &[u8], result: &[u8]) {
     let wrong = damaged(random, width, table);
     sources::runs(pair, random, &wrong);
 
-    let (first, second) = (row_number(random, &wrong), row_number(random, &wrong));
-    let mut slice = result_slice(random, &wrong);
-    pair.compare(&wrong, &mut slice, first, second);
+    questions::over_damaged(pair, random, width, &wrong, result);
     walks::any_row(pair, random, &wrong);
 
     let mut wrong = wrong;

@@ -1,27 +1,8 @@
 //! A list read back from its bytes: the lines that docs/WHY.md sets, and no others.
 
+use crate::line::Line;
+use crate::reasons::{Given, Reason};
 use second::{Ref, Width};
-
-#[derive(Clone, Copy, PartialEq, Eq)]
-pub enum Reason {
-    SamePlace,
-    SharedBase,
-    SeparateRanges,
-    StoreInTwoPieces,
-    ReadInTwoPieces,
-    Undecided,
-}
-
-/// With `#` for each number. Every range of two pieces that a row has holds 0 and 2^w - 1, so two of
-/// them are never separate.
-pub const REASONS: [(Reason, &str); 6] = [
-    (Reason::SamePlace, "same place"),
-    (Reason::SharedBase, "different offsets on a shared base, # and #"),
-    (Reason::SeparateRanges, "separate ranges, #..# and #..#"),
-    (Reason::StoreInTwoPieces, "separate ranges, #..#, #..# and #..#"),
-    (Reason::ReadInTwoPieces, "separate ranges, #..# and #..#, #..#"),
-    (Reason::Undecided, "undecided"),
-];
 
 #[derive(Clone, Copy)]
 pub enum End {
@@ -33,54 +14,28 @@ pub enum End {
 pub const ENDS: [&str; 3] =
     ["found element #", "stands on array #, a store undecided", "stands on array #, no store"];
 
-/// A store compared: its row, the two indexes, the reason, and the numbers that it gives.
+/// A store compared: its row, the two indexes, and the reason.
 pub struct Store {
     instruction: u64,
     row: Ref,
     index: Ref,
     against: Ref,
-    pub reason: Reason,
-    says: Vec<u64>,
+    pub given: Given,
 }
 
 impl Store {
     fn of(line: &Line) -> Option<Store> {
-        let given = line.form.strip_prefix("instruction #: store #, index # against #, ")?;
-        let (reason, _) = *REASONS.iter().find(|(_, form)| *form == given)?;
+        let reason = line.form.strip_prefix("instruction #: store #, index # against #, ")?;
         let [instruction, row, index, against, ref says @ ..] = line.numbers[..] else {
             return None;
         };
         let [row, index, against] = [row, index, against].map(|number| number as Ref);
-        Some(Store { instruction, row, index, against, reason, says: says.to_vec() })
+        Some(Store { instruction, row, index, against, given: Given::of(reason, says)? })
     }
 
     fn true_of(&self, width: Width, words: &[u64]) -> bool {
-        let (store, read) = (words[self.index], words[self.against]);
-        match (self.reason, &self.says[..]) {
-            (Reason::SamePlace, []) => store == read,
-            (Reason::SharedBase, [p, q]) => p != q && width.sub(read, store) == width.sub(*q, *p),
-            (Reason::StoreInTwoPieces, says) => separate(says.split_at(4), [store, read]),
-            (Reason::SeparateRanges | Reason::ReadInTwoPieces, says) => {
-                separate(says.split_at(2), [store, read])
-            }
-            (Reason::Undecided, []) => true,
-            _ => false,
-        }
+        self.given.true_of(width, [self.index, self.against].map(|row| words[row]))
     }
-}
-
-/// Whether two ranges, each given by the ends of its pieces, hold these words and share none. The
-/// ends of two pieces are in order and leave a word between them.
-fn separate((one, other): (&[u64], &[u64]), words: [u64; 2]) -> bool {
-    let in_order = |ends: &[u64]| ends.windows(2).all(|pair| pair[0] <= pair[1]);
-    let parted = |ends: &[u64]| ends.len() == 2 || ends[2] - ends[1] > 1;
-    let has = |piece: &[u64], word: u64| piece[0] <= word && word <= piece[1];
-    let right = |(ends, word): (&[u64], u64)| {
-        in_order(ends) && parted(ends) && ends.chunks(2).any(|piece| has(piece, word))
-    };
-    let apart = |piece: &[u64], another: &[u64]| piece[1] < another[0] || another[1] < piece[0];
-    [one, other].into_iter().zip(words).all(right)
-        && one.chunks(2).all(|piece| other.chunks(2).all(|another| apart(piece, another)))
 }
 
 pub struct List {
@@ -105,12 +60,13 @@ impl List {
         let instructions = [read.numbers[0], result.numbers[7]];
         let read = read.numbers[1] as Ref;
         let stores: Vec<Store> = stores.iter().map(Store::of).collect::<Option<_>>()?;
-        let passed = |store: &Store| !matches!(store.reason, Reason::SamePlace | Reason::Undecided);
+        let passed =
+            |store: &Store| !matches!(store.given.reason, Reason::SamePlace | Reason::Undecided);
         let last = stores.iter().position(|store| !passed(store));
         if last.is_some_and(|last| last + 1 != stores.len()) {
             return None;
         }
-        let end = match (end.form.as_str(), last.map(|last| stores[last].reason)) {
+        let end = match (end.form.as_str(), last.map(|last| stores[last].given.reason)) {
             ("found element #", Some(Reason::SamePlace)) => End::Found,
             ("stands on array #", Some(Reason::Undecided)) => End::OnUndecided,
             ("stands on array #", None) => End::OnNoStore,
@@ -131,14 +87,6 @@ impl List {
         self.stores.iter().all(|store| store.true_of(width, words))
     }
 
-    /// How many stores were passed by a range of two pieces.
-    pub fn passed_by_pieces(&self) -> u64 {
-        let by_pieces = |store: &&Store| {
-            matches!(store.reason, Reason::StoreInTwoPieces | Reason::ReadInTwoPieces)
-        };
-        self.stores.iter().filter(by_pieces).count() as u64
-    }
-
     pub fn most_bytes(&self) -> usize {
         256 * self.stores.len() + 256
     }
@@ -152,32 +100,4 @@ pub fn without_sources(list: &str) -> String {
         None => line,
     });
     lines.map(|line| line.to_owned() + "\n").collect()
-}
-
-/// A line with `#` for each of its numbers, and the numbers.
-struct Line {
-    form: String,
-    numbers: Vec<u64>,
-}
-
-impl Line {
-    fn of(text: &str) -> Option<Line> {
-        let digits: Vec<&str> =
-            text.split(|c: char| !c.is_ascii_digit()).filter(|digits| !digits.is_empty()).collect();
-        let numbers: Vec<u64> =
-            digits.iter().map(|digits| digits.parse().ok()).collect::<Option<_>>()?;
-        // No leading zeros.
-        if numbers.iter().zip(&digits).any(|(number, digits)| number.to_string() != **digits) {
-            return None;
-        }
-        let mut form = String::new();
-        for c in text.chars() {
-            match c {
-                '0'..='9' if form.ends_with('#') => {}
-                '0'..='9' => form.push('#'),
-                other => form.push(other),
-            }
-        }
-        Some(Line { form, numbers })
-    }
 }

@@ -1,12 +1,15 @@
 //! Holds the library, through its C functions, to the second program.
 
 mod aims;
+mod asked;
 mod damage;
 mod edited;
 mod every_byte;
 mod groups;
+mod kept;
 mod leads;
 mod lent;
+mod line;
 mod lines;
 mod meaning;
 mod names;
@@ -14,6 +17,8 @@ mod pair;
 mod paper;
 mod pieces;
 mod pipes;
+mod questions;
+mod reasons;
 mod registers;
 mod replacement;
 mod sources;
@@ -26,7 +31,8 @@ use std::process::ExitCode;
 use std::time::Instant;
 
 const USAGE: &str = "compare [SEED] [--groups N] [--only GROUP] [--trace]
-        [--show PROGRAM [--second-show PROGRAM]] [--why PROGRAM [--second-why PROGRAM]]";
+        [--show PROGRAM [--second-show PROGRAM]] [--why PROGRAM [--second-why PROGRAM]]
+        [--compare PROGRAM [--second-compare PROGRAM]]";
 
 struct Wishes {
     seed: u64,
@@ -38,14 +44,25 @@ struct Wishes {
     second_show: PathBuf,
     why: Option<PathBuf>,
     second_why: PathBuf,
+    compare: Option<PathBuf>,
+    second_compare: PathBuf,
 }
 
 fn wishes() -> Option<Wishes> {
     let this = std::env::current_exe().ok()?;
-    let [second_show, second_why] =
-        ["second-show", "second-why"].map(|name| this.with_file_name(name));
-    let (seed, groups, only, trace, show, why) = (20260101, 21_000, None, false, None, None);
-    let mut wishes = Wishes { seed, groups, only, trace, show, second_show, why, second_why };
+    let beside = |name: &str| this.with_file_name(name);
+    let mut wishes = Wishes {
+        seed: 20260101,
+        groups: 21_000,
+        only: None,
+        trace: false,
+        show: None,
+        second_show: beside("second-show"),
+        why: None,
+        second_why: beside("second-why"),
+        compare: None,
+        second_compare: beside("second-compare"),
+    };
     let mut words = std::env::args().skip(1);
     while let Some(word) = words.next() {
         match word.as_str() {
@@ -56,6 +73,8 @@ fn wishes() -> Option<Wishes> {
             "--second-show" => wishes.second_show = words.next()?.into(),
             "--why" => wishes.why = Some(words.next()?.into()),
             "--second-why" => wishes.second_why = words.next()?.into(),
+            "--compare" => wishes.compare = Some(words.next()?.into()),
+            "--second-compare" => wishes.second_compare = words.next()?.into(),
             seed => wishes.seed = seed.parse().ok()?,
         }
     }
@@ -79,6 +98,7 @@ fn main() -> ExitCode {
     walks::stated(&mut pair);
     pieces::cases(&mut pair);
     registers::cases(&mut pair);
+    asked::cases(&mut pair);
     every_byte::cases(&mut pair);
     for group in 0..wishes.groups {
         if wishes.trace {
@@ -92,6 +112,9 @@ fn main() -> ExitCode {
     }
     if let Some(why) = &wishes.why {
         pipes::why(&mut pair, [why, &wishes.second_why]);
+    }
+    if let Some(compare) = &wishes.compare {
+        pipes::compare(&mut pair, [compare, &wishes.second_compare]);
     }
     println!("{} tables generated, {:.1} s", wishes.groups, began.elapsed().as_secs_f64());
     if never != 0 {

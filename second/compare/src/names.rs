@@ -48,9 +48,12 @@ fn kept_of_other_bounds(pair: &mut Pair, random: &mut Random, change: Change, ta
     let mut kept = table.to_vec();
     kept[place(change.row)].copy_from_slice(&row_bytes(change.new, random.source()));
     let row = random.below(decoded(table).1.len());
-    let answer = pair.edit(&mut table.to_vec(), &mut kept, row as u64, &table[place(row)]);
-    pair.expect(answer == refused(16, 0), || {
-        format!("{answer:?} for kept {} of {}", hex(&kept), hex(table))
+    let answers = [
+        pair.ask(table, &kept, [row as u64; 2]).answer,
+        pair.edit(&mut table.to_vec(), &mut kept, row as u64, &table[place(row)]),
+    ];
+    pair.expect(answers == [refused(16, 0); 2], || {
+        format!("{answers:?} for kept {} of {}", hex(&kept), hex(table))
     });
 }
 

@@ -3,6 +3,7 @@
 
 use crate::lent::Lent;
 use crate::lines::List;
+use crate::reasons::Given;
 use crate::tally::{Call, Seen, Tally};
 use second::bytes::sources;
 use second::{Answer, Comparison, Listing};
@@ -77,20 +78,34 @@ impl Pair {
         answer
     }
 
-    pub fn compare(
-        &mut self, table: &[u8], result: &mut [u8], first: u64, second: u64,
-    ) -> Comparison {
-        let [mut lent, mut room] = [table, &*result].map(|bytes| self.lent(bytes));
-        let given = numbers::compare(lent.content(), room.content(), first, second);
+    /// Both buffers are only read: the second program is given them so, and of the library's each byte
+    /// is looked at afterwards.
+    pub fn ask(&mut self, table: &[u8], kept: &[u8], numbers: [u64; 2]) -> Comparison {
+        let [first, second] = numbers;
+        let [mut lent, mut room] = [table, kept].map(|bytes| self.lent(bytes));
+        let given = numbers::ask(lent.content(), room.content(), first, second);
         let mut seen = Seen::default();
-        let comparison = second::compare_watched(table, result, first, second, &mut seen);
-        self.tally.add(Call::Compare, comparison.answer, &seen);
-        self.tally.add_relation(comparison);
+        let comparison = second::ask_watched(table, kept, first, second, &mut seen);
+        self.tally.add(Call::Ask, comparison.answer, &seen);
+        if comparison.answer.refusal == 0 {
+            self.reason(table, comparison);
+        }
         let given = library_numbers(given.answer, given.relation);
-        let expected = second_numbers(comparison.answer, comparison.relation as u64);
-        let buffers = [("table", lent, table), ("result", room, result)];
-        self.agree(&format!("compare rows {first} and {second}"), given, expected, buffers);
+        let expected = second_numbers(comparison.answer, comparison.relation() as u64);
+        let buffers = [("table", lent, table), ("kept", room, kept)];
+        self.agree(&format!("ask rows {first} and {second}"), given, expected, buffers);
         comparison
+    }
+
+    /// Holds the second program's reason to its stated words, and counts it.
+    fn reason(&mut self, table: &[u8], comparison: Comparison) {
+        let words = comparison.reason.to_string();
+        let given = Given::read(&words);
+        self.expect(given.is_some(), || format!("the reason \"{words}\""));
+        if let Some(given) = given {
+            let width = table[2];
+            self.tally.add_question(width, comparison.relation(), &given);
+        }
     }
 
     pub fn why(&mut self, table: &[u8], result: &mut [u8], row: u64, list: &mut [u8]) -> Listing {

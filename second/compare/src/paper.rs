@@ -46,11 +46,13 @@ pub fn runs(pair: &mut Pair, table: &[u8], answer: Answer, result: Option<&[u8]>
     }
 }
 
-/// Row `first` of the table against others.
+/// Row `first` of the table against others, by its own result.
 pub fn relates(pair: &mut Pair, text: &str, first: u64, others: &[(u64, Relation)]) {
     let table = table(text);
+    let mut result = vec![0x5a; table.len()];
+    pair.run(&table, &mut result);
     for (second, relation) in others {
-        let got = pair.compare(&table, &mut table.clone(), first, *second).relation;
+        let got = pair.ask(&table, &result, [first, *second]).relation();
         pair.expect(got == *relation, || format!("{got:?} for rows {first}, {second} of {text}"));
     }
 }

@@ -1,8 +1,9 @@
 //! Ranges in two pieces: tables small enough to be worked out by hand, and generated ones.
 
-use crate::groups::{comparisons, keeps_meaning, own_edits};
+use crate::groups::{keeps_meaning, own_edits};
 use crate::pair::Pair;
 use crate::paper::{accepted, relates, runs, table};
+use crate::questions;
 use crate::walks::{self, lists};
 use second::Relation::{Apart, NotKnown};
 use second::Width;
@@ -13,7 +14,7 @@ use tables::sources::numbered;
 /// At width 1 pieces always touch; at the next there is room for one gap.
 const WIDTHS: [u8; 8] = [1, 2, 3, 8, 16, 32, 63, 64];
 
-/// A small table whose ranges cross zero: run, compared, edited, and all its reads listed.
+/// A small table whose ranges cross zero: run, asked, edited, and all its reads listed.
 pub fn generated(pair: &mut Pair, random: &mut Random) {
     let width = Width::new(random.pick(&WIDTHS)).expect("1 to 64");
     let count = random.from_to(8, 32) as usize;
@@ -22,7 +23,8 @@ pub fn generated(pair: &mut Pair, random: &mut Random) {
     let mut result = vec![0; table.len()];
     pair.run(&table, &mut result);
     keeps_meaning(pair, random, &table, &result);
-    comparisons(pair, random, &table);
+    questions::over_own(pair, random, &table, &result, 4);
+    questions::over_foreign(pair, random, &table, &result);
     walks::cases(pair, random, &table);
     own_edits(pair, random, table, result);
 }

@@ -1,12 +1,14 @@
-//! The programs `show` and `why` beside `second-show` and `second-why`: both of a kind are given
-//! the same arguments and read the same tables through pipes.
+//! The programs `show`, `why` and `compare` beside `second-show`, `second-why` and `second-compare`:
+//! both of a kind are given the same arguments and read the same tables through pipes.
 
 use crate::damage::{damaged, row_number};
 use crate::groups::some_rows;
 use crate::pair::{hex, Pair};
 use crate::paper::p1;
+use crate::questions::two_rows;
 use crate::walks::reads;
 use second::bytes::{MOST_ROWS, ROW};
+use second::check::{check_header, check_rows};
 use second::{Row, Width};
 use std::ffi::OsStr;
 use std::io::Write;
@@ -18,7 +20,7 @@ use tables::sources::numbered;
 
 const TABLES: u64 = 400;
 
-/// Arguments of `why`: numbers, each on its own, and what is not the number of a row.
+/// Numbers as arguments, and what is not the number of one row, which is all that `why` is told.
 const NUMBERS: [&str; 6] =
     ["0", "08", "00000000000000000008", "1024", "10000000000000000000", "18446744073709551615"];
 const WRONG: [&[&[u8]]; 19] = [
@@ -107,6 +109,37 @@ pub fn why(pair: &mut Pair, programs: Programs) {
     let wrong = WRONG.map(|words| words.iter().map(|word| word.to_vec()).collect());
     calls.extend(numbers.into_iter().chain(wrong).map(|arguments| Call { arguments, input: p1() }));
     alike(pair, "why", programs, calls);
+}
+
+pub fn compare(pair: &mut Pair, programs: Programs) {
+    let random = &mut Random::new(!pair.seed);
+    let mut calls = Vec::new();
+    for input in inputs(pair.seed) {
+        let rows = check_header(&input).and_then(|header| check_rows(&input, header));
+        for _ in 0..2 {
+            let numbers = two_rows(random, &input, rows.as_deref().unwrap_or_default());
+            let arguments = numbers.map(|number| number.to_string().into()).to_vec();
+            calls.push(Call { arguments, input: input.clone() });
+        }
+    }
+    // One of the two is no number, or there are not two.
+    let eight: &[u8] = b"8";
+    let in_pairs = WRONG.iter().flat_map(|words| match words {
+        [word] => vec![vec![*word], vec![*word, eight], vec![eight, *word]],
+        words => vec![words.to_vec()],
+    });
+    let wrong = in_pairs
+        .chain([vec![eight], vec![eight; 3], vec![eight; 4]])
+        .filter(|words| *words != [eight; 2]);
+    let numbers = NUMBERS.iter().flat_map(|number| {
+        let number = number.as_bytes();
+        [vec![number, eight], vec![eight, number]]
+    });
+    calls.extend(numbers.chain(wrong).map(|words| Call {
+        arguments: words.into_iter().map(|word| word.to_vec()).collect(),
+        input: p1(),
+    }));
+    alike(pair, "compare", programs, calls);
 }
 
 fn alike(pair: &mut Pair, name: &str, [program, second]: Programs, calls: Vec<Call>) {

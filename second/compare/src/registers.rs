@@ -64,7 +64,7 @@ fn is_refused(pair: &mut Pair, table: &[u8], number: u64, row: u64) {
     runs(pair, table, refused(number, row), None);
     let (last, slice) = (count(table) - 1, || vec![0x5a; table.len()]);
     let answers = [
-        pair.compare(table, &mut slice(), last, last).answer,
+        pair.ask(table, &slice(), [last, last]).answer,
         pair.why(table, &mut slice(), last, &mut []).answer,
         pair.edit(&mut table.to_vec(), &mut slice(), last, &table[place(last as usize)]),
     ];

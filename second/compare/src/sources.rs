@@ -29,7 +29,7 @@ fn with_sources(bytes: &[u8], sources: &[u32]) -> Vec<u8> {
 }
 
 pub fn cases(pair: &mut Pair, random: &mut Random, table: &[u8], result: &[u8]) {
-    comparisons(pair, random, table);
+    questions(pair, random, table, result);
     lists(pair, random, table);
     edits(pair, random, table, result);
 }
@@ -39,12 +39,12 @@ pub fn runs(pair: &mut Pair, random: &mut Random, table: &[u8]) {
     one_answer(pair, random, table, |pair, table, result| (pair.run(table, result), ()));
 }
 
-fn comparisons(pair: &mut Pair, random: &mut Random, table: &[u8]) {
-    let [first, second] = [(); 2].map(|_| row_number(random, table));
-    one_answer(pair, random, table, |pair, table, result| {
-        let comparison = pair.compare(table, result, first, second);
-        (comparison.answer, comparison.relation)
-    });
+fn questions(pair: &mut Pair, random: &mut Random, table: &[u8], result: &[u8]) {
+    let numbers = [(); 2].map(|_| row_number(random, table));
+    let one = pair.ask(table, result, numbers);
+    let [table, kept] = [table, result].map(|bytes| renumbered(random, bytes));
+    let other = pair.ask(&table, &kept, numbers);
+    pair.expect(one == other, || format!("{one:?} and {other:?} for {}", hex(&table)));
 }
 
 fn lists(pair: &mut Pair, random: &mut Random, table: &[u8]) {

@@ -1,8 +1,9 @@
 //! What the cases reached.
 
 use crate::aims::{Aim, AIMS};
-use crate::lines::{List, ENDS, REASONS};
-use second::{Answer, Comparison, Event, Relation, Watch};
+use crate::lines::{List, ENDS};
+use crate::reasons::{Given, REASONS};
+use second::{Answer, Event, Relation, Watch};
 use std::collections::BTreeMap;
 
 /// One more than the highest refusal.
@@ -15,15 +16,15 @@ const WIDTHS_IN_PIECES: [u8; 7] = [2, 3, 8, 16, 32, 63, 64];
 pub enum Call {
     Run,
     Edit,
-    Compare,
+    Ask,
     Why,
 }
 
 impl Call {
-    pub const ALL: [Call; 4] = [Call::Run, Call::Edit, Call::Compare, Call::Why];
+    pub const ALL: [Call; 4] = [Call::Run, Call::Edit, Call::Ask, Call::Why];
 
     pub fn name(self) -> &'static str {
-        ["run", "edit", "compare", "why"][self as usize]
+        ["run", "edit", "ask", "why"][self as usize]
     }
 
     /// The refusals that the documents let this call give, and acceptance.
@@ -31,12 +32,17 @@ impl Call {
         match refusal {
             0..=6 | 9..=15 | 18 => true,
             7 => self != Call::Run,
-            8 | 16 => self == Call::Edit,
+            8 => self == Call::Edit,
+            16 => self == Call::Edit || self == Call::Ask,
             17 | 22 => self == Call::Why,
             _ => false,
         }
     }
 }
+
+/// Why a kept result was refused.
+const KEPT: [Event; 4] =
+    [Event::KeptMalformed, Event::KeptOtherBounds, Event::KeptOtherHeader, Event::KeptOtherSort];
 
 /// The events of one case.
 pub struct Seen(Vec<bool>);
@@ -58,36 +64,51 @@ pub struct Tally {
     calls: [u64; 4],
     refusals: [[u64; REFUSALS]; 4],
     relations: [u64; 3],
-    reasons: [u64; REASONS.len()],
+    /// Those that questions were answered with, and those that lists gave.
+    reasons: [[u64; REASONS.len()]; 2],
+    /// Questions over other results than the table's own: all, and those that it would have answered
+    /// otherwise.
+    foreign: [u64; 2],
     ends: [u64; ENDS.len()],
-    /// Stores listed as passed by a range of two pieces, for each width.
-    passed_by_pieces: BTreeMap<u8, u64>,
+    /// How often, at each width, a range of two pieces told two places apart: in questions, in lists.
+    by_pieces: [BTreeMap<u8, u64>; 2],
     aims: [u64; AIMS.len()],
-    events: Vec<u64>,
+    events: [Vec<u64>; 4],
 }
 
 impl Tally {
     pub fn add(&mut self, call: Call, answer: Answer, seen: &Seen) {
         self.calls[call as usize] += 1;
         self.refusals[call as usize][answer.refusal as usize] += 1;
-        self.events.resize(Event::ALL.len(), 0);
-        for (count, seen) in self.events.iter_mut().zip(&seen.0) {
+        let events = &mut self.events[call as usize];
+        events.resize(Event::ALL.len(), 0);
+        for (count, seen) in events.iter_mut().zip(&seen.0) {
             *count += *seen as u64;
         }
     }
 
-    pub fn add_relation(&mut self, comparison: Comparison) {
-        if comparison.answer.refusal == 0 {
-            self.relations[comparison.relation as usize] += 1;
-        }
+    /// An accepted question.
+    pub fn add_question(&mut self, width: u8, relation: Relation, given: &Given) {
+        self.relations[relation as usize] += 1;
+        self.add_reason(0, width, given);
+    }
+
+    /// An accepted question over another result than the table's own.
+    pub fn add_foreign(&mut self, otherwise: bool) {
+        self.foreign[0] += 1;
+        self.foreign[1] += otherwise as u64;
     }
 
     pub fn add_list(&mut self, width: u8, list: &List) {
         for store in &list.stores {
-            self.reasons[store.reason as usize] += 1;
+            self.add_reason(1, width, &store.given);
         }
         self.ends[list.end as usize] += 1;
-        *self.passed_by_pieces.entry(width).or_default() += list.passed_by_pieces();
+    }
+
+    fn add_reason(&mut self, by: usize, width: u8, given: &Given) {
+        self.reasons[by][given.reason as usize] += 1;
+        *self.by_pieces[by].entry(width).or_default() += given.by_pieces() as u64;
     }
 
     pub fn add_aim(&mut self, aim: Aim) {
@@ -112,21 +133,33 @@ impl Tally {
                 line(&name, self.refusals[call as usize][refusal], cases);
             }
         }
-        let accepted = self.refusals[Call::Compare as usize][0];
-        println!("relations, shares of {accepted} accepted comparisons");
+        for call in [Call::Edit, Call::Ask] {
+            let refused = self.refusals[call as usize][16];
+            println!("{}: refusal 16, shares of {refused} cases", call.name());
+            for event in KEPT {
+                line(event.text(), self.count(call, event), refused);
+            }
+        }
+        let accepted = self.relations.iter().sum();
+        println!("relations, shares of {accepted} questions answered");
         for relation in [Relation::NotKnown, Relation::Same, Relation::Apart] {
-            line(&format!("{relation:?}"), self.relations[relation as usize], accepted);
+            line(&relation.to_string(), self.relations[relation as usize], accepted);
         }
-        let stores = self.reasons.iter().sum();
-        println!("reasons listed, shares of {stores} stores compared");
-        for (reason, form) in REASONS {
-            line(form, self.reasons[reason as usize], stores);
-        }
-        let by_pieces = self.passed_by_pieces.values().sum();
-        println!("stores passed by a range of two pieces, shares of {by_pieces} at all widths");
-        for width in WIDTHS_IN_PIECES {
-            let passed = self.passed_by_pieces.get(&width).copied().unwrap_or(0);
-            line(&format!("width {width}"), passed, by_pieces);
+        let [foreign, otherwise] = self.foreign;
+        println!("over other results than the table's own, shares of {foreign} questions answered");
+        line("another relation than its own result gives", otherwise, foreign);
+        for (by, what) in ["questions answered", "stores listed"].iter().enumerate() {
+            let reasons = self.reasons[by].iter().sum();
+            println!("reasons, shares of {reasons} {what}");
+            for (reason, form) in REASONS {
+                line(form, self.reasons[by][reason as usize], reasons);
+            }
+            let in_pieces = self.by_pieces[by].values().sum();
+            println!("told apart by a range of two pieces, shares of {in_pieces} {what}");
+            for width in WIDTHS_IN_PIECES {
+                let count = self.by_pieces[by].get(&width).copied().unwrap_or(0);
+                line(&format!("width {width}"), count, in_pieces);
+            }
         }
         let lists = self.ends.iter().sum();
         println!("ends listed, shares of {lists} lists");
@@ -140,9 +173,14 @@ impl Tally {
         }
         let cases = self.calls.iter().sum();
         println!("rules and ends of walks, shares of all {cases} cases");
-        for event in Event::ALL {
-            line(event.text(), self.events.get(*event as usize).copied().unwrap_or(0), cases);
+        for event in Event::ALL.iter().filter(|event| !KEPT.contains(event)) {
+            let count = Call::ALL.iter().map(|call| self.count(*call, *event)).sum();
+            line(event.text(), count, cases);
         }
         never
+    }
+
+    fn count(&self, call: Call, event: Event) -> u64 {
+        self.events[call as usize].get(event as usize).copied().unwrap_or(0)
     }
 }

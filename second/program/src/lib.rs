@@ -3,6 +3,8 @@
 //! decoded once, worked on as enums, and encoded at the end, where each gets its instruction number,
 //! which no rule has seen; nothing lent is written before the outcome is certain.
 
+pub mod arguments;
+mod ask;
 pub mod bytes;
 pub mod check;
 mod names;
@@ -16,7 +18,8 @@ mod watch;
 mod why;
 mod word;
 
-pub use reason::Relation;
+pub use ask::{ask, ask_watched, Comparison};
+pub use reason::{Reason, Relation};
 pub use row::{Ref, Row, Sort};
 pub use watch::{Event, Watch};
 pub use why::{why, why_watched, Listing};
@@ -35,22 +38,12 @@ pub struct Answer {
     pub touched: u64,
 }
 
-#[derive(Clone, Copy, PartialEq, Eq, Debug)]
-pub struct Comparison {
-    pub answer: Answer,
-    pub relation: Relation,
-}
-
 pub fn run(table: &[u8], result: &mut [u8]) -> Answer {
     run_watched(table, result, &mut ())
 }
 
 pub fn edit(table: &mut [u8], kept: &mut [u8], row: u64, replacement: &[u8]) -> Answer {
     edit_watched(table, kept, row, replacement, &mut ())
-}
-
-pub fn compare(table: &[u8], result: &mut [u8], first: u64, second: u64) -> Comparison {
-    compare_watched(table, result, first, second, &mut ())
 }
 
 pub fn run_watched(table: &[u8], result: &mut [u8], watch: &mut impl Watch) -> Answer {
@@ -94,28 +87,6 @@ pub fn edit_watched(
     })())
 }
 
-pub fn compare_watched(
-    table: &[u8], result: &mut [u8], first: u64, second: u64, watch: &mut impl Watch,
-) -> Comparison {
-    let mut relation = Relation::NotKnown;
-    let answer = answered((|| {
-        let header = check_lent(table, result)?;
-        check_number(first, header)?;
-        check_number(second, header)?;
-        let rows = check_rows(table, header)?;
-        for number in [first, second] {
-            if rows[number as usize].sort() == Sort::Array {
-                return Err(Refused { number: 14, row: number });
-            }
-        }
-        let mut outcome = simplified(header, &rows, watch);
-        relation = outcome.relation(first as usize, second as usize);
-        write_result(result, table, outcome.rows(), &sources(table));
-        Ok(counts(&rows, outcome.rows(), header.rows))
-    })());
-    Comparison { answer, relation }
-}
-
 /// Refusals 1 to 6.
 fn check_lent(table: &[u8], result: &[u8]) -> Result<Header, Refused> {
     let header = check_header(table)?;
@@ -132,7 +103,8 @@ fn check_number(row: u64, header: Header) -> Result<(), Refused> {
     Ok(())
 }
 
-/// The rows of a kept result that fits the edited table.
+/// The rows of a kept result that goes with the table, of which these are the rows; an edit's has the
+/// replacement in place.
 fn check_kept(
     table: &[u8], rows: &[Row], kept: &[u8], watch: &mut impl Watch,
 ) -> Result<Vec<Row>, Refused> {

@@ -61,13 +61,9 @@ impl<'w, W: Watch> Simplifier<'w, W> {
         self.settle(row);
     }
 
-    pub fn relation(&mut self, first: Ref, second: Ref) -> Relation {
-        self.reason(first, second).relation()
-    }
-
     /// Each step of a walk asks this; as a call it would cost the longest walks a third.
     #[inline(always)]
-    fn reason(&mut self, first: Ref, second: Ref) -> Reason {
+    pub fn reason(&mut self, first: Ref, second: Ref) -> Reason {
         let (one, other) = (self.normal(first), self.normal(second));
         if one == other {
             return Reason::SamePlace;

@@ -1,11 +1,11 @@
-//! Tables as text: what `show` and `why` print, and the row language the example tables are
-//! written in.
+//! Tables as text: what `show`, `why` and `compare` print, and the row language the example tables
+//! are written in.
 
 use crate::bytes::{numbers, sources, table_bytes, table_length, MOST_ROWS};
 use crate::check::{check_header, check_rows};
 use crate::row::{Ref, Row};
 use crate::word::Width;
-use crate::{run, why, Answer};
+use crate::{ask, run, why, Answer};
 use std::io::{self, Read};
 
 /// Room for every list: 256 bytes for each of at most 1,023 stores compared, and 256 more.
@@ -45,6 +45,18 @@ pub fn listed(table: &[u8], row: u64) -> String {
     }
     list.truncate(listing.length as usize);
     String::from_utf8(list).expect("a list is text")
+}
+
+/// What `compare` prints for two rows of a table: a run, then a question over what it left. A refusal
+/// is the question's own, also where the run was refused.
+pub fn compared(table: &[u8], first: u64, second: u64) -> String {
+    let mut result = vec![0; table.len()];
+    run(table, &mut result);
+    let comparison = ask(table, &result, first, second);
+    if comparison.answer.refusal != 0 {
+        return refusal_line(comparison.answer);
+    }
+    format!("rows {first} and {second}: {}, {}\n", comparison.relation(), comparison.reason)
 }
 
 pub fn row_line(number: Ref, row: Row, source: u32) -> String {

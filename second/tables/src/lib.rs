@@ -3,6 +3,7 @@
 
 pub mod chain;
 pub mod crossing;
+pub mod deep;
 pub mod machine;
 pub mod names;
 pub mod random;

@@ -34,17 +34,16 @@ pub fn edit(
     outcome(numbers::edit(table, kept, row, replacement))
 }
 
-/// Simplifies `table` into `result` and compares two of its word rows.
-pub fn compare(
-    table: &[u8], result: &mut [u8], first: u64, second: u64,
-) -> Result<(Done, Relation), Refusal> {
-    let comparison = numbers::compare(table, result, first, second);
+/// What is known of two word rows of `table`, by their rows in its kept result. Both buffers are only
+/// read, so that one result may be asked any number of times.
+pub fn ask(table: &[u8], kept: &[u8], first: u64, second: u64) -> Result<Relation, Refusal> {
+    let comparison = numbers::ask(table, kept, first, second);
     let relation = match comparison.relation {
         1 => Relation::Same,
         2 => Relation::Apart,
         _ => Relation::NotKnown,
     };
-    outcome(comparison.answer).map(|done| (done, relation))
+    outcome(comparison.answer).map(|_| relation)
 }
 
 /// Simplifies `table` into `result` and lists why its READ row `row` moved. The list is the first

@@ -31,8 +31,8 @@ extern "C" {
         table: *mut u8, table_len: usize, kept: *mut u8, kept_len: usize, row: u64,
         replacement: *const u8, replacement_len: usize,
     ) -> Answer;
-    fn stezkoun_compare(
-        table: *const u8, table_len: usize, result: *mut u8, result_len: usize, first: u64,
+    fn stezkoun_ask(
+        table: *const u8, table_len: usize, kept: *const u8, kept_len: usize, first: u64,
         second: u64,
     ) -> Comparison;
     fn stezkoun_why(
@@ -41,8 +41,8 @@ extern "C" {
     ) -> Listing;
 }
 
-// Slices are never null, and the borrow rules keep lent buffers from overlapping: that is all
-// the C functions ask of their callers.
+// Slices are never null, and the borrow rules keep a buffer that is written to from overlapping
+// another: that is all the C functions ask of their callers.
 
 pub fn run(table: &[u8], result: &mut [u8]) -> Answer {
     unsafe { stezkoun_run(table.as_ptr(), table.len(), result.as_mut_ptr(), result.len()) }
@@ -62,17 +62,8 @@ pub fn edit(table: &mut [u8], kept: &mut [u8], row: u64, replacement: &[u8]) -> 
     }
 }
 
-pub fn compare(table: &[u8], result: &mut [u8], first: u64, second: u64) -> Comparison {
-    unsafe {
-        stezkoun_compare(
-            table.as_ptr(),
-            table.len(),
-            result.as_mut_ptr(),
-            result.len(),
-            first,
-            second,
-        )
-    }
+pub fn ask(table: &[u8], kept: &[u8], first: u64, second: u64) -> Comparison {
+    unsafe { stezkoun_ask(table.as_ptr(), table.len(), kept.as_ptr(), kept.len(), first, second) }
 }
 
 pub fn why(table: &[u8], result: &mut [u8], row: u64, list: &mut [u8]) -> Listing {

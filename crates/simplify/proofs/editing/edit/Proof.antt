@@ -27,8 +27,8 @@ take-row-requires c κs = take-asks _ _ _ _ (c .before .before .before .edit .en
 put-row-requires : tie.Need-put-row-requires
 put-row-requires c κs = put-asks _ _ _ _ (c .before .before .before .before .before .before .edit .ensures) (c .before .before .before .before .before .if1 .left)
 
-edited-requires : tie.Need-edited-requires
-edited-requires c κs = judge-asks _ _ _ _ (c .before .before .before .before .before .before .before .before .before .before .before .edit .ensures) (c .before .before .before .before .before .before .before .before .before .before .if1 .left) (c .before .before .before .before .put-row .ensures)
+with-kept-requires : tie.Need-with-kept-requires
+with-kept-requires c κs = judge-asks _ _ _ _ (c .before .before .before .before .before .before .before .before .before .before .before .edit .ensures) (c .before .before .before .before .before .before .before .before .before .before .if1 .left) (c .before .before .before .before .put-row .ensures)
 
 slice-aggregate-put-row : tie.Need-slice-aggregate-put-row
 slice-aggregate-put-row c = search needs
@@ -46,13 +46,13 @@ same-length-4 : tie.Need-same-length-4
 same-length-4 c = search needs
 
 returns-2 : tie.Need-returns-2
-returns-2 c = edited-refused _ _ _ _ (c .before .before .before .before .before .before .before .before .before .before .before .before .before .before .before .before .before .before .before .before .edit .ensures) (c .before .before .before .before .before .before .before .before .before .before .before .before .before .before .before .before .before .before .before .if1 .left) (c .before .before .before .before .before .before .before .before .before .before .before .before .before .put-row .ensures) (c .before .before .before .before .before .before .before .before .before .before .before .before .before .before .before .before .take-row .ensures) (c .before .before .before .before .before .before .before .before .edited .ensures) (c .before .before .before .before .before .before .if2 .taken) (c .before .before .before .put-row2 .ensures) (c .refused2 .ensures)
+returns-2 c = edited-refused _ _ _ _ (c .before .before .before .before .before .before .before .before .before .before .before .before .before .before .before .before .before .before .before .before .edit .ensures) (c .before .before .before .before .before .before .before .before .before .before .before .before .before .before .before .before .before .before .before .if1 .left) (c .before .before .before .before .before .before .before .before .before .before .before .before .before .put-row .ensures) (c .before .before .before .before .before .before .before .before .before .before .before .before .before .before .before .before .take-row .ensures) (c .before .before .before .before .before .before .before .before .with-kept .ensures) (c .before .before .before .before .before .before .if2 .taken) (c .before .before .before .put-row2 .ensures) (c .refused2 .ensures)
 
 slice-aggregate-patch : tie.Need-slice-aggregate-patch
 slice-aggregate-patch c = search needs
 
 patch-requires : tie.Need-patch-requires
-patch-requires c κs = edit-patches _ _ _ _ (c .before .before .before .before .before .before .before .before .before .before .before .before .before .before .before .before .before .edit .ensures) (c .before .before .before .before .before .before .before .before .before .before .before .before .before .before .before .before .if1 .left) (c .before .before .before .before .before .before .before .before .before .before .put-row .ensures) (c .before .before .before .before .before .before .before .before .before .before .before .before .before .take-row .ensures) (c .before .before .before .before .before .edited .ensures) (c .before .before .before .if2 .left)
+patch-requires c κs = edit-patches _ _ _ _ (c .before .before .before .before .before .before .before .before .before .before .before .before .before .before .before .before .before .edit .ensures) (c .before .before .before .before .before .before .before .before .before .before .before .before .before .before .before .before .if1 .left) (c .before .before .before .before .before .before .before .before .before .before .put-row .ensures) (c .before .before .before .before .before .before .before .before .before .before .before .before .before .take-row .ensures) (c .before .before .before .before .before .with-kept .ensures) (c .before .before .before .if2 .left)
 
 same-length-5 : tie.Need-same-length-5
 same-length-5 c = search needs
@@ -61,7 +61,7 @@ same-length-6 : tie.Need-same-length-6
 same-length-6 c = search needs
 
 returns-3 : tie.Need-returns-3
-returns-3 c = edit-done _ _ _ _ (c .before .before .before .before .before .before .before .before .before .before .before .before .before .before .before .before .before .before .before .before .edit .ensures) (c .before .before .before .before .before .before .before .before .before .before .before .before .before .before .before .before .before .before .before .if1 .left) (c .before .before .before .before .before .before .before .before .before .before .before .before .before .put-row .ensures) (c .before .before .before .before .before .before .before .before .before .before .before .before .before .before .before .before .take-row .ensures) (c .before .before .before .before .before .before .before .before .edited .ensures) (c .before .before .before .before .before .before .if2 .left) (c .before .before .patch .ensures)
+returns-3 c = edit-done _ _ _ _ (c .before .before .before .before .before .before .before .before .before .before .before .before .before .before .before .before .before .before .before .before .edit .ensures) (c .before .before .before .before .before .before .before .before .before .before .before .before .before .before .before .before .before .before .before .if1 .left) (c .before .before .before .before .before .before .before .before .before .before .before .before .before .put-row .ensures) (c .before .before .before .before .before .before .before .before .before .before .before .before .before .before .before .before .take-row .ensures) (c .before .before .before .before .before .before .before .before .with-kept .ensures) (c .before .before .before .before .before .before .if2 .left) (c .before .before .patch .ensures)
 
 pub edit-spec : {M : Type 1} → statement M
 edit-spec =
@@ -75,7 +75,7 @@ edit-spec =
     slice-aggregate-take-row
     take-row-requires
     put-row-requires
-    edited-requires
+    with-kept-requires
     slice-aggregate-put-row
     put-row-requires-2
     refused-requires-2

@@ -1,0 +1,13 @@
+// A question about two rows of a kept result: whether they are the same, apart, or neither is known, and why. It makes no run.
+mod asking;
+mod needed;
+mod ranges;
+
+pub use asking::ask;
+use simplify::Answer;
+use term::Reason;
+
+pub struct Comparison {
+    pub answer: Answer,
+    pub why: Reason,
+}
