@@ -6,7 +6,7 @@ use native.Mathlib.Omega.{arith}
 use lib.Pow.{pow-pos}
 use mathlib.Core.Path.{_≡_, refl, ap, sym, fun-ext, subst, _∙_}
 use mathlib.Core.Bool.{Bool, true, false, Bool·beq, not}
-use mathlib.Core.List.{List, []}
+use mathlib.Core.List.{List}
 use lib.ListN.{length, take}
 use lib.Seq.{getD-take, take-take}
 use borrow.Author.Tests.{eq-eqb}

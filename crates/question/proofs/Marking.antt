@@ -30,10 +30,11 @@ use Rattle.question.specs.Needed.{Word, TwoWords, Needing, Needed, CanGo
 abbrev HasTwo : ℕ → Type 0
 HasTwo kind = (kind ≡ SUM) ⊎ (kind ≡ DIFF)
 
-two-low : (kind : ℕ) → HasTwo kind → SHIFT ≤ kind
+-- they stand between SHIFT and NEG, which have one
+two-low : (kind : ℕ) → HasTwo kind → SHIFT < kind
 two-low kind two = ⊎-elim (λ (e : kind ≡ SUM). omega arith) (λ (e : kind ≡ DIFF). omega arith) two
 
-two-high : (kind : ℕ) → HasTwo kind → kind ≤ NEG
+two-high : (kind : ℕ) → HasTwo kind → kind < NEG
 two-high kind two = ⊎-elim (λ (e : kind ≡ SUM). omega arith) (λ (e : kind ≡ DIFF). omega arith) two
 
 rests-kind : (U : ℕ → Type 0) (x : Row) → (SHIFT ≤ x .kind → x .kind ≤ NEG → U (x .a)) → (HasTwo (x .kind) → U (x .b)) → Rests U (termOf x)
@@ -146,7 +147,7 @@ module _ (R marks : List ℕ) (r : ℕ) (needs : Needing R (r + 1) marks) (own :
     outside : (SHIFT ≤ x .kind → x .kind ≤ NEG → ⊥) → Needed R marks r marks
     outside none =
         settled begun
-        (rw (← decoded-term R r x decoded) (rests-kind _ x (λ l h. absurd (none l h)) (λ two. absurd (none (two-low (x .kind) two) (two-high (x .kind) two)))))
+        (rw (← decoded-term R r x decoded) (rests-kind _ x (λ l h. absurd (none l h)) (λ two. absurd (none (omega (arith, two-low (x .kind) two)) (omega (arith, two-high (x .kind) two))))))
 
     pub below-low : x .kind < SHIFT → Needed R marks r marks
     below-low l = outside (λ low high. absurd (omega arith))
@@ -172,10 +173,10 @@ module _ (R marks : List ℕ) (r : ℕ) (needs : Needing R (r + 1) marks) (own :
         one single = settled grown (rw (← decoded-term R r x decoded) (rests-kind _ x (λ l h. first-marked) (λ two. absurd (single two))))
 
         pub below-shift : x .kind ≡ SHIFT → Needed R marks r now
-        below-shift e = one (λ two. ⊎-elim (λ (f : x .kind ≡ SUM). absurd (omega arith)) (λ (f : x .kind ≡ DIFF). absurd (omega arith)) two)
+        below-shift e = one (λ two. absurd (omega (arith, e, two-low (x .kind) two)))
 
         pub below-neg : x .kind ≡ NEG → Needed R marks r now
-        below-neg e = one (λ two. ⊎-elim (λ (f : x .kind ≡ SUM). absurd (omega arith)) (λ (f : x .kind ≡ DIFF). absurd (omega arith)) two)
+        below-neg e = one (λ two. absurd (omega (arith, e, two-high (x .kind) two)))
 
         module _ (no-shift : x .kind ≡ SHIFT → ⊥) (no-neg : x .kind ≡ NEG → ⊥) where
           two-rows : HasTwo (x .kind)
