@@ -24,10 +24,18 @@
  * Any bytes may be lent: what is not a table is refused. Calls share no state, so calls may run at
  * once where none may write a buffer that another is lent.
  *
+ * Limits. To work a READ out, its index is compared with that of store after store, from its array
+ * down, until one is the same or not known to be apart, or no store is left. stezkoun_run and
+ * stezkoun_edit take a limit, 0 to STEZKOUN_LIMIT: a READ that has passed so many stores stays a READ
+ * of the array that it has come to. Each row of a result means what its row in the table means,
+ * whatever the limit; a lower one may leave more reads, and bounds what they cost. With
+ * STEZKOUN_LIMIT every walk comes to its end, and the functions that take no limit work with it.
+ *
  * Answers. On acceptance refusal and row are 0, removed counts the rows that are READ in the
- * table and not READ in the result, and touched counts the rows that were worked out. Of
- * stezkoun_ask, which works out none, both are 0. On a refusal removed and touched are 0 and every
- * lent byte is as it was.
+ * table and not READ in the result, touched counts the rows that were worked out, and compared the
+ * stores that the READ rows among them were compared with: each that was passed, and each that ended
+ * a walk. Of stezkoun_ask, which works out none, all three are 0; of stezkoun_why, which does not
+ * count stores, compared is 0. On a refusal all three are 0 and every lent byte is as it was.
  */
 #ifndef STEZKOUN_H
 #define STEZKOUN_H
@@ -40,7 +48,7 @@ extern "C" {
 #endif
 
 /*
- * Refusals, in the order in which they are looked for: 1 to 8; then the rows ascending, each
+ * Refusals, in the order in which they are looked for: 1 to 8; then 19; then the rows ascending, each
  * 9 to 15 and 18, the first faulty row ending the search; then 16; then 14 for a number that names
  * an array row, 17, 22. Of 9 to 15 and 18 the answer's row is the faulty row, and of 17, and of 14
  * for a number, the row that was named; of all others it is 0.
@@ -70,6 +78,7 @@ enum stezkoun_refusal {
                                         table has the replacement in place */
     STEZKOUN_NOT_A_READ = 17,        /* a row named to stezkoun_why is not a READ */
     STEZKOUN_OTHER_BOUNDS = 18,      /* VAR with other k or h than the first row of its name */
+    STEZKOUN_LIMIT_TOO_HIGH = 19,    /* limit above STEZKOUN_LIMIT */
     STEZKOUN_LIST_TOO_SHORT = 22     /* space for the list shorter than the list */
 };
 
@@ -79,51 +88,59 @@ enum stezkoun_relation {
     STEZKOUN_APART = 2
 };
 
-struct stezkoun_answer { uint64_t refusal, row, removed, touched; };
+/* The highest limit. */
+#define STEZKOUN_LIMIT 1024
+
+struct stezkoun_answer { uint64_t refusal, row, removed, touched, compared; };
 struct stezkoun_comparison { struct stezkoun_answer answer; uint64_t relation; };
 struct stezkoun_listing { struct stezkoun_answer answer; uint64_t length; };
 
 /*
- * Simplifies the table into the first table_len bytes of result; later bytes stay. Touched is n.
- * Gives refusals 1 to 6, 9 to 15 and 18.
+ * Simplifies the table into the first table_len bytes of result; later bytes stay. Touched is n, and
+ * compared at most the limit times the READ rows of the table. Gives refusals 1 to 6, 19, 9 to 15 and
+ * 18.
  */
 struct stezkoun_answer stezkoun_run(const uint8_t *table, size_t table_len,
-                                    uint8_t *result, size_t result_len);
+                                    uint8_t *result, size_t result_len,
+                                    uint64_t limit);
 
 /*
  * Puts the replacement in the place of one row of the table, and works out anew, in the kept
  * result, that row and the rows that lead back to it in the table as it stood or as it stands now,
  * each with the instruction number of its row in the edited table; all else stays, numbers among
- * it. The row that stood there before may be malformed: it has a name if its kind byte is 2. With
- * the table's own kept result the outcome is that of a fresh run of the edited table. Refusals
- * 9 to 15 and 18 are judged on the table with the replacement in place. Gives refusals 1 to 16 and
- * 18.
+ * it. The row that stood there before may be malformed: it has a name if its kind byte is 2. The
+ * limit holds for the READ rows worked out anew, and compared counts their stores alone; all other
+ * rows stay as they are, whatever limit they were made with. With the table's own kept result, made
+ * with the same limit, the outcome is that of a fresh run of the edited table with it. A result does
+ * not say with which limit it was made: the caller knows. Refusals 9 to 15 and 18 are judged on the
+ * table with the replacement in place. Gives refusals 1 to 8, 19, 9 to 15, 18 and 16.
  */
 struct stezkoun_answer stezkoun_edit(uint8_t *table, size_t table_len,
                                      uint8_t *kept, size_t kept_len,
                                      uint64_t row,
-                                     const uint8_t *replacement, size_t replacement_len);
+                                     const uint8_t *replacement, size_t replacement_len,
+                                     uint64_t limit);
 
 /*
  * Says of two word rows of the table, by their rows in its kept result, whether they are the same
  * in every case, apart in every case, or not known to be either. Nothing is run: both buffers are
- * only read, a result may be asked any number of times, and removed and touched are 0. The table's
- * own kept result is what stezkoun_run left, and stezkoun_edit after it. Any other that is not
- * refused is answered by its rows as they stand, each VAR row a variable of its own; that says
- * nothing of the table. Gives refusals 1 to 7, 9 to 15 and 18, then 16, judged beside the table as
- * it stands, then 14 for a number that names an array row of the table, its row being that number
- * and the first number coming first.
+ * only read, a result may be asked any number of times, and all counts are 0. The table's own kept
+ * result is what stezkoun_run left, and stezkoun_edit after it, all with one limit, whichever it was.
+ * Any other that is not refused is answered by its rows as they stand, each VAR row a variable of its
+ * own; that says nothing of the table. Gives refusals 1 to 7, 9 to 15 and 18, then 16, judged beside
+ * the table as it stands, then 14 for a number that names an array row of the table, its row being
+ * that number and the first number coming first.
  */
 struct stezkoun_comparison stezkoun_ask(const uint8_t *table, size_t table_len,
                                         const uint8_t *kept, size_t kept_len,
                                         uint64_t first, uint64_t second);
 
 /*
- * Simplifies as stezkoun_run does, and lists the walk of one READ row of the table: each store
- * that was compared, nearest first, with its instruction number and the reason, then where the
- * read ended. The lines are text without a zero byte at the end (docs/WHY.md), at most 256 bytes
- * for each store compared and 256 more; they take the first length bytes of list, and later bytes
- * stay. Gives refusals 1 to 7, 9 to 15 and 18, then 17 and 22. On 22 length says how much to lend;
+ * Simplifies as stezkoun_run does with STEZKOUN_LIMIT, and lists the walk of one READ row of the
+ * table: each store that was compared, nearest first, with its instruction number and the reason,
+ * then where the read ended. The lines are text without a zero byte at the end (docs/WHY.md), at most
+ * 256 bytes for each store compared and 256 more; they take the first length bytes of list, and later
+ * bytes stay. Gives refusals 1 to 7, 9 to 15 and 18, then 17 and 22. On 22 length says how much to lend;
  * on all others it is 0.
  */
 struct stezkoun_listing stezkoun_why(const uint8_t *table, size_t table_len,

@@ -4,10 +4,10 @@
 #include <stdint.h>
 #include <string.h>
 
-struct plain_answer { uint64_t refusal, row, removed, touched; };
+struct plain_answer { uint64_t refusal, row, removed, touched, compared; };
 
 enum { CONST = 1, VAR, SHIFT, SUM, DIFF, NEG, READ, FRESH, WRITE };
-enum { HEADER = 6, ROW = 30, SOURCE = 26, MOST_ROWS = 1024 };
+enum { HEADER = 6, ROW = 30, SOURCE = 26, MOST_ROWS = 1024, HIGHEST_LIMIT = 1024 };
 
 /* A base is kept as the row that writes it: CONST for nothing, SHIFT for one. */
 struct row { uint8_t kind; uint16_t a, b, c; uint64_t k, h; };
@@ -21,6 +21,7 @@ struct known { uint64_t base, offset; struct range range; };
 struct state {
     uint64_t largest;
     unsigned most_pieces; /* of a range: 2, or 1 as the rule was before */
+    uint64_t limit, compared; /* stores that a read may compare, and that all have compared */
     struct row rows[MOST_ROWS];
     struct known known[MOST_ROWS];
 };
@@ -172,13 +173,16 @@ static enum relation relation(const struct state *s, uint16_t i, uint16_t j) {
     return apart(x->range, y->range) ? APART : NOT_KNOWN;
 }
 
-static struct row read_row(const struct state *s, uint16_t array, uint16_t index) {
-    while (s->rows[array].kind == WRITE) {
-        enum relation found = relation(s, s->rows[array].b, index);
-        if (found == SAME) return shift(s, s->rows[array].c, 0);
-        if (found == NOT_KNOWN) break;
-        array = s->rows[array].a;
+static struct row read_row(struct state *s, uint16_t array, uint16_t index) {
+    uint64_t left = s->limit;
+    enum relation found = APART;
+    while (found == APART && left > 0 && s->rows[array].kind == WRITE) {
+        left--;
+        found = relation(s, s->rows[array].b, index);
+        if (found == APART) array = s->rows[array].a;
     }
+    s->compared += s->limit - left;
+    if (found == SAME) return shift(s, s->rows[array].c, 0);
     return word(READ, array, plain_name(s, index), 0);
 }
 
@@ -225,7 +229,7 @@ static void settle(struct state *s, uint16_t i, struct row r) {
     s->known[i] = known;
 }
 
-static struct row simplified(const struct state *s, struct row r) {
+static struct row simplified(struct state *s, struct row r) {
     switch (r.kind) {
     case SHIFT: return shift(s, r.a, r.k);
     case SUM: return sum(s, r.a, r.b, r.k);
@@ -238,12 +242,13 @@ static struct row simplified(const struct state *s, struct row r) {
 }
 
 static struct plain_answer refused(uint64_t number, uint64_t row) {
-    struct plain_answer answer = { number, row, 0, 0 };
+    struct plain_answer answer = { number, row, 0, 0, 0 };
     return answer;
 }
 
 struct plain_answer plain_run(const uint8_t *table, size_t table_len,
-                              uint8_t *result, size_t result_len, unsigned most_pieces) {
+                              uint8_t *result, size_t result_len, uint64_t limit,
+                              unsigned most_pieces) {
     struct state s;
     struct names names;
     if (table_len < HEADER) return refused(1, 0);
@@ -253,8 +258,11 @@ struct plain_answer plain_run(const uint8_t *table, size_t table_len,
     if (n > MOST_ROWS) return refused(4, 0);
     if (table_len != HEADER + (size_t)ROW * n) return refused(5, 0);
     if (result_len < table_len) return refused(6, 0);
+    if (limit > HIGHEST_LIMIT) return refused(19, 0);
     s.largest = UINT64_MAX >> (64 - table[2]);
     s.most_pieces = most_pieces;
+    s.limit = limit;
+    s.compared = 0;
     memset(names.heads, 0, sizeof names.heads);
     for (unsigned i = 0; i < n; i++) {
         const uint8_t *p = table + HEADER + ROW * i;
@@ -276,6 +284,6 @@ struct plain_answer plain_run(const uint8_t *table, size_t table_len,
         unsigned at = HEADER + ROW * i;
         encode(result + at, new_row, get32(table + at + SOURCE));
     }
-    struct plain_answer answer = { 0, 0, removed, n };
+    struct plain_answer answer = { 0, 0, removed, n, s.compared };
     return answer;
 }

@@ -4,7 +4,7 @@
 use crate::families::Subject;
 use second::text::LONGEST_LIST;
 use std::ffi::c_void;
-use stezkoun::numbers;
+use stezkoun::{numbers, LIMIT};
 
 const STACK: usize = 8 << 20;
 
@@ -37,12 +37,12 @@ pub fn print(subjects: &[Subject]) {
         let table = &subject.table;
         let mut result = subject.result.clone();
         let run = depth(&mut stack, &mut || {
-            numbers::run(table, &mut result);
+            numbers::run(table, &mut result, LIMIT);
         });
         let edit = subject.edits().into_iter().map(|edit| {
             let (mut table, mut kept) = (table.clone(), subject.result.clone());
             depth(&mut stack, &mut || {
-                numbers::edit(&mut table, &mut kept, edit.row, &edit.replacements[0]);
+                numbers::edit(&mut table, &mut kept, edit.row, &edit.replacements[0], LIMIT);
             })
         });
         let edit = edit.max().unwrap_or(0);

@@ -1,10 +1,11 @@
 //! The tables that are measured.
 
 use second::bytes::{row_bytes, table_bytes, ROW};
-use second::{Reason, Row, Sort, Width};
+use second::{Answer, Reason, Row, Sort, Width, HIGHEST_LIMIT};
 use tables::machine::Stack;
 use tables::random::Random;
 use tables::sources::sources;
+use tables::stores::{self, Told};
 use tables::{chain, machine, wellformed};
 
 pub const SIZES: [usize; 4] = [16, 64, 256, 1024];
@@ -12,6 +13,17 @@ pub const SIZES: [usize; 4] = [16, 64, 256, 1024];
 /// How many names the thousand variables of a table have: none; few; as many as there are slots for
 /// the library's first look; so many that it must search for most.
 pub const NAMES: [usize; 4] = [0, 16, 256, 1000];
+
+/// Tables of 1,024 rows whose reads pass all their stores: how the two are told apart, how many stores
+/// and how many reads. A thousand stores leave room for 20 reads, and no table has more comparisons
+/// than 510 of each.
+pub type Stores = (Told, usize, usize);
+pub const STORES: [Stores; 4] = [
+    (Told::ByBase, 1000, 20),
+    (Told::ByRanges, 1000, 20),
+    (Told::ByBase, 510, 510),
+    (Told::ByRanges, 510, 510),
+];
 
 #[derive(Clone, Copy)]
 pub enum Family {
@@ -124,12 +136,28 @@ impl Subject {
         Subject::of(width, rows)
     }
 
+    pub fn passed((told, stores, reads): Stores) -> Subject {
+        let width = Width::new(32).expect("a width");
+        Subject::of(width, stores::passed(width, told, stores, reads))
+    }
+
     fn of(width: Width, rows: Vec<Row>) -> Subject {
         let sources = sources(&mut Random::new(rows.len() as u64), rows.len());
         let table = table_bytes(width, &rows, &sources);
         let mut result = vec![0; table.len()];
-        assert_eq!(second::run(&table, &mut result).refusal, 0);
+        assert_eq!(second::run(&table, &mut result, HIGHEST_LIMIT).refusal, 0);
         Subject { rows, sources, table, result }
+    }
+
+    /// What a run with a limit answers and leaves, by the second program.
+    pub fn within(&self, limit: u64) -> (Answer, Vec<u8>) {
+        let mut result = vec![0; self.table.len()];
+        (second::run(&self.table, &mut result, limit), result)
+    }
+
+    /// How many rows are of a kind.
+    pub fn count(&self, is: impl Fn(&Row) -> bool) -> usize {
+        self.rows.iter().filter(|row| is(row)).count()
     }
 
     /// A row exchanged for another of its instruction, and put back.
@@ -138,16 +166,18 @@ impl Subject {
         Edit { name, row: row as u64, replacements }
     }
 
-    /// The first row moves everything, or what has its name, a SHIFT in the middle what follows it,
-    /// the last itself.
+    /// The first variable moves everything, or what has its name, a SHIFT in the middle what follows
+    /// it, the last row itself.
     pub fn edits(&self) -> Vec<Edit> {
         let mut edits = Vec::new();
-        match self.rows[0] {
+        let first = self.rows.iter().position(|row| matches!(row, Row::Var { .. })).unwrap_or(0);
+        match self.rows[first] {
             Row::Var { name: 0, low, high } if low < high => {
-                edits.push(self.edit("edit first", 0, Row::Var { name: 0, low: low + 1, high }));
+                let other = Row::Var { name: 0, low: low + 1, high };
+                edits.push(self.edit("edit first", first, other));
             }
             Row::Var { name: 1.., low, high } => {
-                edits.push(self.edit("edit first", 0, Row::Var { name: 0, low, high }));
+                edits.push(self.edit("edit first", first, Row::Var { name: 0, low, high }));
             }
             _ => {}
         }

@@ -2,13 +2,15 @@
 
 mod depth;
 mod families;
+mod limits;
 mod plain;
 mod timing;
 
-use families::{Edit, Family, Question, Subject, NAMES, SIZES};
+use families::{Edit, Family, Question, Subject, NAMES, SIZES, STORES};
+use limits::LIMITS;
 use second::text::LONGEST_LIST;
 use std::hint::black_box;
-use stezkoun::numbers;
+use stezkoun::{numbers, LIMIT};
 
 type Call<'a> = Box<dyn FnMut() + 'a>;
 
@@ -17,13 +19,13 @@ fn runs(subject: &Subject) -> Vec<Call<'_>> {
     let [mut first, mut second, mut third] = [(); 3].map(|_| vec![0; table.len()]);
     vec![
         Box::new(move || {
-            black_box(numbers::run(black_box(table), &mut first));
+            black_box(numbers::run(black_box(table), &mut first, LIMIT));
         }),
         Box::new(move || {
-            black_box(second::run(black_box(table), &mut second));
+            black_box(second::run(black_box(table), &mut second, LIMIT));
         }),
         Box::new(move || {
-            black_box(plain::run(black_box(table), &mut third));
+            black_box(plain::run(black_box(table), &mut third, LIMIT));
         }),
     ]
 }
@@ -36,12 +38,12 @@ fn edits<'a>(subject: &Subject, edit: &Edit) -> Vec<Call<'a>> {
     vec![
         Box::new(move || {
             let replacement = &replacements[turn];
-            black_box(numbers::edit(&mut table, &mut kept, row, replacement));
+            black_box(numbers::edit(&mut table, &mut kept, row, replacement, LIMIT));
             turn ^= 1;
         }),
         Box::new(move || {
             let replacement = &replacements[second_turn];
-            black_box(second::edit(&mut second_table, &mut second_kept, row, replacement));
+            black_box(second::edit(&mut second_table, &mut second_kept, row, replacement, LIMIT));
             second_turn ^= 1;
         }),
     ]
@@ -74,20 +76,10 @@ fn lists(subject: &Subject) -> Vec<Call<'_>> {
     ]
 }
 
-/// What is measured must be right.
+/// What is measured must be right, with each limit.
 fn check(subject: &Subject) {
-    let mut results = [(); 2].map(|_| vec![0; subject.table.len()]);
-    let library = numbers::run(&subject.table, &mut results[0]);
-    let plain = plain::run(&subject.table, &mut results[1]);
-    assert_eq!(library, plain, "the library's and plain C's answers");
-    assert!(results.iter().all(|result| *result == subject.result), "a wrong result");
-    for edit in subject.edits() {
-        let (mut table, mut kept) = (subject.table.clone(), subject.result.clone());
-        for replacement in edit.replacements {
-            let answer = numbers::edit(&mut table, &mut kept, edit.row, &replacement);
-            assert_eq!(answer.refusal, 0, "{}", edit.name);
-        }
-        assert!(kept == subject.result, "{} and back again", edit.name);
+    for limit in LIMITS {
+        check_within(subject, limit);
     }
     for Question { name, rows: [first, second] } in subject.questions() {
         let asked = numbers::ask(&subject.table, &subject.result, first, second);
@@ -96,10 +88,28 @@ fn check(subject: &Subject) {
         assert_eq!(asked.relation, expected.relation() as u64, "{name}");
     }
     let (row, mut list) = (subject.listed(), vec![0; LONGEST_LIST]);
-    let listing = numbers::why(&subject.table, &mut results[0], row, &mut list);
+    let listing = numbers::why(&subject.table, &mut subject.result.clone(), row, &mut list);
     let expected = second::text::listed(&subject.table, row);
     assert_eq!(listing.length, expected.len() as u64, "the length of a list");
     assert!(list.starts_with(expected.as_bytes()), "a wrong list");
+}
+
+fn check_within(subject: &Subject, limit: u64) {
+    let (answer, own) = subject.within(limit);
+    let [mut by_library, mut by_plain] = [(); 2].map(|_| vec![0; own.len()]);
+    let library = numbers::run(&subject.table, &mut by_library, limit);
+    let plain = plain::run(&subject.table, &mut by_plain, limit);
+    assert_eq!(library, plain, "the library's and plain C's answers, limit {limit}");
+    assert_eq!(library.compared, answer.compared, "stores compared, limit {limit}");
+    assert!(by_library == own && by_plain == own, "a wrong result, limit {limit}");
+    for edit in subject.edits() {
+        let (mut table, mut kept) = (subject.table.clone(), own.clone());
+        for replacement in edit.replacements {
+            let answer = numbers::edit(&mut table, &mut kept, edit.row, &replacement, limit);
+            assert_eq!(answer.refusal, 0, "{}", edit.name);
+        }
+        assert!(kept == own, "{} and back again, limit {limit}", edit.name);
+    }
 }
 
 fn head(title: &str, first: &str, last: &str) {
@@ -162,7 +172,7 @@ fn removed_reads() {
         let subject = Subject::new(Family::StackAcrossZero, size);
         let mut result = vec![0; subject.table.len()];
         let before = plain::run_in_one_piece(&subject.table, &mut result).removed;
-        let removed = numbers::run(&subject.table, &mut result).removed;
+        let removed = numbers::run(&subject.table, &mut result, LIMIT).removed;
         let reads = subject.rows.iter().filter(|row| row.is_read()).count();
         println!("  {size:>5} {reads:>6} {before:>10} {removed:>10}");
     }
@@ -185,6 +195,7 @@ fn main() {
         subjects.extend(Family::ALL.map(|family| Subject::new(family, size)));
     }
     subjects.extend(NAMES.map(Subject::named));
+    subjects.extend(STORES.map(Subject::passed));
     subjects.iter().for_each(check);
 
     println!("ns a call, medians, width 32; a ratio above 1 says that the library is slower");
@@ -215,6 +226,7 @@ fn main() {
     names(&NAMES.map(Subject::named));
     questions_and_runs();
     removed_reads();
+    limits::print();
     println!();
     depth::print(&subjects);
 }

@@ -2,23 +2,26 @@
 
 use std::ffi::c_uint;
 use stezkoun::numbers::Answer;
+use stezkoun::LIMIT;
 
 extern "C" {
     fn plain_run(
-        table: *const u8, table_len: usize, result: *mut u8, result_len: usize, most_pieces: c_uint,
+        table: *const u8, table_len: usize, result: *mut u8, result_len: usize, limit: u64,
+        most_pieces: c_uint,
     ) -> Answer;
 }
 
-pub fn run(table: &[u8], result: &mut [u8]) -> Answer {
-    run_in(2, table, result)
+pub fn run(table: &[u8], result: &mut [u8], limit: u64) -> Answer {
+    run_in(2, table, result, limit)
 }
 
 /// By the rule of ranges as it was before: each is one piece, and one that straddles is full.
 pub fn run_in_one_piece(table: &[u8], result: &mut [u8]) -> Answer {
-    run_in(1, table, result)
+    run_in(1, table, result, LIMIT)
 }
 
-fn run_in(most_pieces: c_uint, table: &[u8], result: &mut [u8]) -> Answer {
+fn run_in(most_pieces: c_uint, table: &[u8], result: &mut [u8], limit: u64) -> Answer {
     let (table_len, result_len) = (table.len(), result.len());
-    unsafe { plain_run(table.as_ptr(), table_len, result.as_mut_ptr(), result_len, most_pieces) }
+    let (table, result) = (table.as_ptr(), result.as_mut_ptr());
+    unsafe { plain_run(table, table_len, result, result_len, limit, most_pieces) }
 }

@@ -1,6 +1,7 @@
 /*
  * Simplifies table P1, asks the result about pairs of rows and why its last read moved, widens its
- * variable and sees what becomes of the result and the answers.
+ * variable and sees what becomes of the result and the answers, and keeps all reads from being
+ * compared with stores.
  *
  *   cc -I include examples/c/simplify.c libstezkoun.a -o simplify && ./simplify
  */
@@ -58,7 +59,8 @@ static int print_answer(const char *call, struct stezkoun_answer answer) {
         printf("%s: refused %" PRIu64 " row %" PRIu64 "\n", call, answer.refusal, answer.row);
         return 1;
     }
-    printf("%s: removed %" PRIu64 " touched %" PRIu64 "\n", call, answer.removed, answer.touched);
+    printf("%s: removed %" PRIu64 " touched %" PRIu64 " compared %" PRIu64 "\n", call,
+           answer.removed, answer.touched, answer.compared);
     return 0;
 }
 
@@ -80,7 +82,9 @@ int main(void) {
     uint8_t table[HEADER + ROW * ROWS], result[sizeof table], wide[ROW], list[512];
 
     put_p1(table);
-    if (print_answer("run", stezkoun_run(table, sizeof table, result, sizeof result))) return 1;
+    struct stezkoun_answer run =
+        stezkoun_run(table, sizeof table, result, sizeof result, STEZKOUN_LIMIT);
+    if (print_answer("run", run)) return 1;
     print_rows(result);
 
     if (print_relations(table, result, sizeof result)) return 1;
@@ -91,11 +95,18 @@ int main(void) {
     fwrite(list, 1, listed.length, stdout);
 
     /* With the pointer anywhere from 0, as instruction 3 has it, row 2 may be 7, and the last read
-       no longer passes the store. */
+       no longer passes the store. The limit is the one of the run. */
     put_row(wide, VAR, 0, 0, 0, 0, 250, 3);
-    struct stezkoun_answer edited =
-        stezkoun_edit(table, sizeof table, result, sizeof result, 0, wide, sizeof wide);
+    struct stezkoun_answer edited = stezkoun_edit(table, sizeof table, result, sizeof result, 0,
+                                                  wide, sizeof wide, STEZKOUN_LIMIT);
     if (print_answer("edit", edited)) return 1;
     print_rows(result);
-    return print_relations(table, result, sizeof result);
+    if (print_relations(table, result, sizeof result)) return 1;
+
+    /* With the limit 0 both reads stay where they are. */
+    run = stezkoun_run(table, sizeof table, result, sizeof result, 0);
+    if (print_answer("run, limit 0", run)) return 1;
+    print_rows(result);
+    run = stezkoun_run(table, sizeof table, result, sizeof result, STEZKOUN_LIMIT + 1);
+    return !print_answer("run, limit 1025", run);
 }

@@ -1,3 +1,4 @@
--- Laws of the argument.
+-- Laws of the arguments.
+pub mod Words
 pub mod Numbers
 pub mod Examples

@@ -1,12 +1,19 @@
--- The number that an argument of a program gives.
+-- What an argument of a program gives: a known word, or a number.
 use Prim.Native.Nat.{ℕ, _^_}
-use mathlib.Core.Bool.{Bool, true, cond, _&&_}
+use mathlib.Core.Bool.{Bool, true, false, cond, _&&_}
 use mathlib.Core.List.{List, [], _∷_}
-use lib.Dec.{leb, ltb}
+use lib.Dec.{eqb, leb, ltb}
 use lib.ListN.{length}
 use Rattle.text.specs.Text.{read}
 use Rattle.argument.specs.declared.Parsed.{Parsed}
 use Rattle.argument.specs.declared.Parsed.the-variants.{Number, Nothing}
+
+-- byte by byte
+unfoldable pub sameWord : List ℕ → List ℕ → Bool
+sameWord [] [] = true
+sameWord [] (d ∷ ds) = false
+sameWord (c ∷ cs) [] = false
+sameWord (c ∷ cs) (d ∷ ds) = eqb c d && sameWord cs ds
 
 -- 48 is `0` and 57 is `9`
 unfoldable pub isDigit : ℕ → Bool

@@ -1,6 +1,6 @@
-// The numbers that the arguments of a program give.
+// What the arguments of a program give: numbers and known words.
 ghost use mathlib.Core.Path.{_≡_};
-ghost use Rattle.argument.specs.Argument.{isDigit, numberOf};
+ghost use Rattle.argument.specs.Argument.{sameWord, isDigit, numberOf};
 
 // What an argument reads as.
 pub enum Parsed {
@@ -9,9 +9,26 @@ pub enum Parsed {
 }
 
 // the digits that a number of 64 bits has at most, and the largest such number
-const DIGITS: usize = 20;
+pub const DIGITS: usize = 20;
 
 const MOST: u64 = 0xffff_ffff_ffff_ffff;
+
+// Whether a word is that other one.
+pub fn is_word(word: &[u8], other: &[u8]) -> bool
+    ensures { λ r. ⌜ r ≡ sameWord (now (word .entry)) (now (other .entry)) ⌝ }
+{
+    if word.len() != other.len() {
+        return false;
+    }
+    let mut at = 0;
+    while at < word.len() {
+        if word[at] != other[at] {
+            return false;
+        }
+        at += 1;
+    }
+    true
+}
 
 fn is_digit(c: u8) -> bool
     ensures { λ r. ⌜ r ≡ isDigit c ⌝ }

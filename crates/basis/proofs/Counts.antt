@@ -1,13 +1,13 @@
--- Counting the rows that pass a test, and whether one does. Assumes nothing.
+-- Counting the rows that pass a test, whether one does, and adding numbers of rows up. Assumes nothing.
 use mathlib.Core.Path.{_≡_, refl, ap, ap₂, sym, _∙_}
 use mathlib.Core.Bool.{Bool, true, false, cond, true≢false}
 use mathlib.Core.Logic.{dite}
-use Prim.Native.Nat.{ℕ, zero, suc, _+_, _≤_, _<_}
-use native.Mathlib.Nat.{le-refl, add-zero, add-suc, add-assoc}
+use Prim.Native.Nat.{ℕ, zero, suc, _+_, _*_, _≤_, _<_}
+use native.Mathlib.Nat.{le-refl, add-zero, add-suc, add-assoc, mul-add}
 use native.Mathlib.Numerals.{add-one}
 use native.Mathlib.Omega.{arith}
 use native.Mathlib.Decide.{decLt}
-use Rattle.basis.specs.Count.{countWhere, anyBelow}
+use Rattle.basis.specs.Count.{countWhere, total, anyBelow}
 use Rattle.basis.proofs.Pick.{test-case, pick-case, or-true-left, or-true-right, or-false}
 
 -- one row more
@@ -50,6 +50,26 @@ count-constant b test (suc n) h =
     (count-constant b test n (λ (x : ℕ) (l : x < n). h x (omega arith)))
     (h n (le-refl (suc n)))
     ∙ still b n
+
+-- ---- numbers of rows, added up
+
+pub total-next : (number : ℕ → ℕ) (n : ℕ) → total number (n + 1) ≡ total number n + number n
+unfolding total
+total-next number n = rw add-one
+
+pub total-same : (number other : ℕ → ℕ) (n : ℕ) → ((x : ℕ) → x < n → number x ≡ other x) → total number n ≡ total other n
+unfolding total
+total-same number other zero h = refl
+total-same number other (suc n) h = ap₂ (λ (k m : ℕ). k + m) (total-same number other n (λ (x : ℕ) (l : x < n). h x (omega arith))) (h n (le-refl (suc n)))
+
+-- numbers of at most m where a test passes, and of 0 elsewhere
+pub total-most : (m : ℕ) (number : ℕ → ℕ) (test : ℕ → Bool) (n : ℕ) → ((x : ℕ) → number x ≤ m * cond (test x) 1 0) → total number n ≤ m * countWhere test n
+unfolding total countWhere
+total-most m number test zero h = omega arith
+total-most m number test (suc n) h =
+    rw (mul-add m (countWhere test n) (cond (test n) 1 0)) (omega (arith, total-most m number test n h, h n))
+
+-- ---- whether one row passes
 
 -- none of the first 0 rows passes a test; one more row that fails it changes nothing; one that passes it decides
 pub any-zero : (test : ℕ → Bool) → anyBelow test 0 ≡ false

@@ -14,7 +14,7 @@ use Rattle.table.specs.Refusals.{rows, width}
 use Rattle.table.specs.Accepted.{GoodHead}
 use Rattle.table.proofs.Heads.{good-head}
 use Rattle.judge.specs.Verdict.{isAccepted}
-use Rattle.judge.specs.Run.{roomReasons}
+use Rattle.judge.specs.Run.{LIMIT, roomReasons}
 use Rattle.judge.specs.Ask.{pairReasons}
 use Rattle.judge.proofs.Verdicts.{accepted-is, given-number}
 use Rattle.judge.proofs.Granted.{roomy}
@@ -53,16 +53,16 @@ module _ (t kept : List ℕ) (x y : ℕ) {c : Comparison} (asked : c ≡ askAnsw
   answered-wide z = head z .width-high
 
   -- over the result of a run
-  module _ (buffer : List ℕ) {ran : Answer} (left : Ran t buffer ran kept) {l m : List ℕ} {r : ℕ} where
+  module _ (buffer : List ℕ) {ran : Answer} (left : Ran t buffer LIMIT ran kept) {l m : List ℕ} {r : ℕ} where
     pub refusal-written : (c .answer .refusal ≡ 0 → ⊥) → Put l 0 (refusal (c .answer .refusal) (c .answer .row)) SHORT m r
-        → Put l 0 (answerText t (runResult t buffer) x y) LONGEST m r
+        → Put l 0 (answerText t (runResult t buffer LIMIT) x y) LONGEST m r
     unfolding answerText isAccepted
     refusal-written some done =
         let no : eqb (askVerdict t kept x y .number) 0 ≡ false = ne-eqb _ 0 (λ z. some (refusal-is ∙ z)) in
         rw (← left .result-is, no, ← refusal-is, ← row-is) (put-capped done (omega arith))
 
     pub line-written : c .answer .refusal ≡ 0 → (top : ℕ) → top + 1 ≡ 2 ^ width t → Put l 0 (line (top + 1) x y (c .why)) LONGEST m r
-        → Put l 0 (answerText t (runResult t buffer) x y) LONGEST m r
+        → Put l 0 (answerText t (runResult t buffer LIMIT) x y) LONGEST m r
     unfolding answerText modulus
     line-written z top is done =
         let yes : isAccepted (askVerdict t kept x y) ≡ true = accepted-is _ (sym refusal-is ∙ z) in

@@ -7,7 +7,7 @@ use Rattle.range.specs.Range.{span, isTwo, pieces}
 use Rattle.term.specs.declared.Reason.the-variants.{SamePlace, Offsets, Separate, Undecided}
 use Rattle.term.specs.Reason.{knownBy}
 use Rattle.text.specs.Text.{ascii, digits, decimal}
-use Rattle.listing.specs.List.{pieceText, piecesText, rangeText, offsetsText, reasonText}
+use Rattle.reasons.specs.Reasons.{pieceText, piecesText, rangeText, offsetsText, reasonText}
 use Rattle.compare.specs.Line.{relationText, rowsText, line}
 
 same-place : line 256 2 6 SamePlace ≡ ascii "rows 2 and 6: same, same place\n"

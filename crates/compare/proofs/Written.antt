@@ -10,8 +10,8 @@ use Rattle.term.specs.declared.Reason.{Reason}
 use Rattle.term.specs.Reason.{knownBy}
 use Rattle.text.specs.Text.{ascii, decimal, Put}
 use Rattle.text.proofs.Puts.{put-then, put-capped}
-use Rattle.listing.specs.List.{reasonText}
-use Rattle.listing.proofs.Written.{put-onto, put-last}
+use Rattle.reasons.specs.Reasons.{reasonText}
+use Rattle.reasons.proofs.Written.{put-onto, put-last}
 use Rattle.compare.specs.Line.{relationText, rowsText, line, LONGEST}
 
 module _ {l m : List ℕ} {at r : ℕ} (known : Relation) where

@@ -11,7 +11,7 @@ use Rattle.simplify.specs.Answer.{modulus}
 use Rattle.question.specs.Ask.{askVerdict, askReason}
 use Rattle.text.specs.Text.{ascii, decimal}
 use Rattle.lines.specs.Lines.{refusal}
-use Rattle.listing.specs.List.{reasonText}
+use Rattle.reasons.specs.Reasons.{reasonText}
 
 unfoldable pub relationText : Relation → List ℕ
 relationText Unknown = ascii "not known"

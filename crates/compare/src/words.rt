@@ -1,6 +1,6 @@
 // The line that says what is known of two rows, written into a slice that the caller lends. `top` is the largest word.
-use listing::put_labelled;
-use listing::put_why;
+use reasons::put_labelled;
+use reasons::put_why;
 use term::Reason;
 use term::Relation;
 use text::put_word;

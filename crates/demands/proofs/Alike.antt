@@ -79,9 +79,9 @@ module _ (s t : List ℕ) (same : AlikeButSources s t) where
   unfolding modulus
   modulus-alike = rw width-alike
 
-  pub fresh-alike : freshRows s ≡ freshRows t
+  pub fresh-alike : (limit : ℕ) → freshRows limit s ≡ freshRows limit t
   unfolding freshRows
-  fresh-alike = rw (modulus-alike, look-alike)
+  fresh-alike limit = rw (modulus-alike, look-alike)
 
   -- a part from the beginning on
   pub part-alike : (n : ℕ) → HEADER ≤ n → AlikeButSources (take n s) (take n t)

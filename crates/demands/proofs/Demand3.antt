@@ -1,5 +1,6 @@
--- Demand 3, of bytes: after an accepted edit a kept result that was the table's own is, byte for byte, what a fresh run of the edited table leaves there, and is
--- the edited table's own; so after any number of accepted edits. A row that is not r and does not lead back to r keeps its bytes, in any kept result.
+-- Demand 3, of bytes: after an accepted edit a kept result that was the table's own, made with the same limit, is, byte for byte, what a fresh run of the edited
+-- table with that limit leaves there, and is the edited table's own; so after any number of accepted edits with that limit. A row that is not r and does not lead
+-- back to r keeps its bytes, in any kept result and with any limit.
 use Prim.Native.Nat.{ℕ, _≤_}
 use mathlib.Core.Path.{_≡_, ap, sym, _∙_}
 use mathlib.Core.Bool.{true, false}
@@ -25,9 +26,9 @@ use Rattle.term.proofs.Looked.{edited-others}
 use Rattle.term.proofs.Accepted.{accepted-formed}
 use Rattle.term.proofs.There.{rowBytes, rows-stay}
 use Rattle.judge.specs.Verdict.{isAccepted}
-use Rattle.judge.specs.Run.{runVerdict}
+use Rattle.judge.specs.Run.{LIMIT, runVerdict}
 use Rattle.judge.proofs.Verdicts.{table-passes, head-same}
-use Rattle.judge.proofs.Granted.{run-granted, grant-run}
+use Rattle.judge.proofs.Granted.{RunGranted, run-granted, grant-run}
 use Rattle.simplify.specs.Run.{freshBytes, runResult}
 use Rattle.simplify.specs.Edit.{editVerdict, isTouched, editedRows, editedBytes, editTable, editKept}
 use Rattle.simplify.proofs.Granted.{EditGranted, edit-granted}
@@ -37,28 +38,30 @@ use Rattle.demands.proofs.Fresh.{run-leaves, fresh-head, fresh-there, f
 use Rattle.demands.proofs.EditIsRun.{edited-bytes}
 
 -- an accepted run leaves the fresh result, which is the table's own
-fresh-owned : (t buffer : List ℕ) → checkTable t ≡ accepted → length t ≤ length buffer → Own t (freshBytes t buffer)
-fresh-owned t buffer passes room =
+fresh-owned : (limit : ℕ) (t buffer : List ℕ) → checkTable t ≡ accepted → length t ≤ length buffer → limit ≤ LIMIT → Own limit t (freshBytes limit t buffer)
+fresh-owned limit t buffer passes room few =
     let ok : Accepted t = accepted-gives t passes in
-    let granted : isAccepted (runVerdict t (freshBytes t buffer)) ≡ true = grant-run t (freshBytes t buffer) passes (rw (fresh-length t buffer) room) in
+    let granted : isAccepted (runVerdict t (freshBytes limit t buffer) limit) ≡ true =
+    grant-run t (freshBytes limit t buffer) limit passes (rw (fresh-length limit t buffer) room) few in
     record {
       accepted = granted;
       settled =
-          run-leaves t (freshBytes t buffer) granted ∙
-          fresh-again t (freshBytes t buffer) (fresh-head t buffer ok room) (fresh-there t buffer ok room);
+          run-leaves t (freshBytes limit t buffer) limit granted ∙
+          fresh-again limit t (freshBytes limit t buffer) (fresh-head limit t buffer ok room) (fresh-there limit t buffer ok room);
     }
 
-pub run-owned : (t buffer : List ℕ) → isAccepted (runVerdict t buffer) ≡ true → Own t (runResult t buffer)
-run-owned t buffer granted =
-    rw (run-leaves t buffer granted) (fresh-owned t buffer (run-granted t buffer granted .table) (run-granted t buffer granted .roomy .room))
+pub run-owned : (t buffer : List ℕ) (limit : ℕ) → isAccepted (runVerdict t buffer limit) ≡ true → Own limit t (runResult t buffer limit)
+run-owned t buffer limit granted =
+    let is : RunGranted t buffer limit = run-granted t buffer limit granted in
+    rw (run-leaves t buffer limit granted) (fresh-owned limit t buffer (is .table) (is .roomy .room) (is .few))
 
 -- the edit of row r, accepted
-module _ (t kept : List ℕ) (r : ℕ) (replacement : List ℕ) (granted : isAccepted (editVerdict t kept r replacement) ≡ true) where
+module _ (t kept : List ℕ) (r : ℕ) (replacement : List ℕ) (limit : ℕ) (granted : isAccepted (editVerdict t kept r replacement limit) ≡ true) where
   abbrev e : List ℕ
   e = edited t r replacement
 
-  is : EditGranted t kept r replacement
-  is = edit-granted t kept r replacement granted
+  is : EditGranted t kept r replacement limit
+  is = edit-granted t kept r replacement limit granted
 
   pub edited-long : length (edited t r replacement) ≡ length t
   unfolding edited
@@ -75,13 +78,13 @@ module _ (t kept : List ℕ) (r : ℕ) (replacement : List ℕ) (granted : isAcc
   ok : Accepted e
   ok = accepted-gives e edited-passes
 
-  pub table-left : editTable t kept r replacement ≡ edited t r replacement
+  pub table-left : editTable t kept r replacement limit ≡ edited t r replacement
   unfolding editTable
-  table-left = pick-true (isAccepted (editVerdict t kept r replacement)) _ _ granted
+  table-left = pick-true (isAccepted (editVerdict t kept r replacement limit)) _ _ granted
 
-  pub kept-left : editKept t kept r replacement ≡ editedBytes t (edited t r replacement) r kept
+  pub kept-left : editKept t kept r replacement limit ≡ editedBytes limit t (edited t r replacement) r kept
   unfolding editKept
-  kept-left = pick-true (isAccepted (editVerdict t kept r replacement)) _ _ granted
+  kept-left = pick-true (isAccepted (editVerdict t kept r replacement limit)) _ _ granted
 
   pub edited-room : place (rows (edited t r replacement)) ≤ length kept
   edited-room = rw (← ok .head .size, edited-long) (is .ready .roomy .room)
@@ -99,34 +102,34 @@ module _ (t kept : List ℕ) (r : ℕ) (replacement : List ℕ) (granted : isAcc
   edited-touched = is-touched-in (look t) (look e) r alike below
 
   -- a row that is not r and does not lead back to r, names followed, in the table as it stood before or as it stands after
-  pub others-stay : (x : ℕ) → (x ≡ r → ⊥) → (LeadsBack (seen (look t)) r x → ⊥) → (LeadsBack (seen (look (editTable t kept r replacement))) r x → ⊥) →
-      rowBytes (editKept t kept r replacement) x ≡ rowBytes kept x
+  pub others-stay : (x : ℕ) → (x ≡ r → ⊥) → (LeadsBack (seen (look t)) r x → ⊥) → (LeadsBack (seen (look (editTable t kept r replacement limit))) r x → ⊥) →
+      rowBytes (editKept t kept r replacement limit) x ≡ rowBytes kept x
   unfolding editedBytes isTouched
   others-stay x other apart-before apart-after =
       ap (λ (l : List ℕ). rowBytes l x) kept-left ∙
-      rows-stay (editedRows t e r kept) (sourceAt e) (isTouched t e r) (rows e) kept x
+      rows-stay (editedRows limit t e r kept) (sourceAt e) (isTouched t e r) (rows e) kept x
       (test-case (isTouched t e r x)
       (λ (h : isTouched t e r x ≡ true).
       absurd (⊎-elim other (⊎-elim apart-before (rw table-left at apart-after))
       (touched-in-is (look t) (look e) r alike below x h)))
       (λ (h : isTouched t e r x ≡ false). h))
 
-  module _ (own : Own t kept) where
-    fresh-left : editKept t kept r replacement ≡ freshBytes e kept
+  module _ (own : Own limit t kept) where
+    fresh-left : editKept t kept r replacement limit ≡ freshBytes limit e kept
     fresh-left = kept-left ∙ edited-bytes t kept r replacement (is .ready .long) own ok
 
     room : length e ≤ length kept
     room = rw edited-long (is .ready .roomy .room)
 
     -- byte for byte what a fresh run of the edited table leaves there
-    pub edit-is-fresh-run : editKept t kept r replacement ≡ runResult (editTable t kept r replacement) kept
-    edit-is-fresh-run = rw table-left (fresh-left ∙ sym (run-leaves e kept (grant-run e kept edited-passes room)))
+    pub edit-is-fresh-run : editKept t kept r replacement limit ≡ runResult (editTable t kept r replacement limit) kept limit
+    edit-is-fresh-run = rw table-left (fresh-left ∙ sym (run-leaves e kept limit (grant-run e kept limit edited-passes room (is .ready .few))))
 
     -- and so the edited table's own
-    pub edit-owned : Own (editTable t kept r replacement) (editKept t kept r replacement)
-    edit-owned = rw (table-left, fresh-left) (fresh-owned e kept edited-passes room)
+    pub edit-owned : Own limit (editTable t kept r replacement limit) (editKept t kept r replacement limit)
+    edit-owned = rw (table-left, fresh-left) (fresh-owned limit e kept edited-passes room (is .ready .few))
 
 -- after any number of accepted edits
-pub edits-owned : {t kept t′ kept′ : List ℕ} → Edits t kept t′ kept′ → Own t kept → Own t′ kept′
+pub edits-owned : {limit : ℕ} {t kept t′ kept′ : List ℕ} → Edits limit t kept t′ kept′ → Own limit t kept → Own limit t′ kept′
 edits-owned none own = own
-edits-owned (one {t} {kept} r replacement granted later) own = edits-owned later (edit-owned t kept r replacement granted own)
+edits-owned {limit} (one {t} {kept} r replacement granted later) own = edits-owned later (edit-owned t kept r replacement limit granted own)

@@ -10,11 +10,12 @@ use Rattle.question.specs.Ask.{askAnswer}
 use Rattle.explanation.specs.declared.Listing.{Listing}
 use Rattle.explanation.specs.Why.{Explained}
 
-pub run-determined : {t buffer : List ℕ} {a a′ : Answer} {left left′ : List ℕ} → Ran t buffer a left → Ran t buffer a′ left′ → (a ≡ a′) × (left ≡ left′)
+pub run-determined : {t buffer : List ℕ} {limit : ℕ} {a a′ : Answer} {left left′ : List ℕ} →
+    Ran t buffer limit a left → Ran t buffer limit a′ left′ → (a ≡ a′) × (left ≡ left′)
 run-determined p q = (p .answer-is ∙ sym (q .answer-is), p .result-is ∙ sym (q .result-is))
 
-pub edit-determined : {t kept : List ℕ} {r : ℕ} {new : List ℕ} {a a′ : Answer} {table table′ left left′ : List ℕ} →
-    Edited t kept r new a table left → Edited t kept r new a′ table′ left′ → (a ≡ a′) × (table ≡ table′) × (left ≡ left′)
+pub edit-determined : {t kept : List ℕ} {r : ℕ} {new : List ℕ} {limit : ℕ} {a a′ : Answer} {table table′ left left′ : List ℕ} →
+    Edited t kept r new limit a table left → Edited t kept r new limit a′ table′ left′ → (a ≡ a′) × (table ≡ table′) × (left ≡ left′)
 edit-determined p q = (p .answer-is ∙ sym (q .answer-is), p .table-is ∙ sym (q .table-is), p .kept-is ∙ sym (q .kept-is))
 
 -- a question's promise is that one equation

@@ -1,4 +1,4 @@
--- An edit of a table with its own kept result leaves what a fresh run of the edited table leaves.
+-- An edit of a table with its own kept result leaves what a fresh run of the edited table with the same limit leaves.
 use Prim.Native.Nat.{ℕ, _^_, _<_}
 use mathlib.Core.Path.{_≡_, refl, ap, ap₂, sym, fun-ext, _∙_}
 use mathlib.Core.Bool.{true, false}
@@ -25,14 +25,14 @@ use Rattle.term.proofs.There.{rowBytes, rows-alike}
 use Rattle.term.proofs.Accepted.{accepted-formed}
 use Rattle.term.proofs.Acceptable.{same-width, same-rows}
 use Rattle.judge.specs.Kept.{keptPart}
-use Rattle.simplify.specs.Answer.{modulus, LIMIT}
+use Rattle.simplify.specs.Answer.{modulus}
 use Rattle.simplify.specs.Run.{freshRows, freshBytes}
 use Rattle.simplify.specs.Edit.{isTouched, editedRows, editedBytes}
 use Rattle.demands.specs.Own.{Own}
 use Rattle.demands.proofs.Fresh.{head-there, fresh-there}
 use Rattle.demands.proofs.Owned.{own-accepted, own-room, own-fresh, own-head, part-rows}
 
-module _ (t kept : List ℕ) (r : ℕ) (new : List ℕ) (long : length new ≡ LENGTH) (own : Own t kept) (ok′ : Accepted (edited t r new)) where
+module _ {limit : ℕ} (t kept : List ℕ) (r : ℕ) (new : List ℕ) (long : length new ≡ LENGTH) (own : Own limit t kept) (ok′ : Accepted (edited t r new)) where
   abbrev pub e : List ℕ
   e = edited t r new
 
@@ -62,35 +62,35 @@ module _ (t kept : List ℕ) (r : ℕ) (new : List ℕ) (long : length new ≡ L
   below′ = formed-below (2 ^ width e) (look e) (accepted-formed e ok′)
 
   -- the rows of the kept result are those of the fresh result
-  part-look : (x : ℕ) → look (keptPart e kept) x ≡ freshRows t x
+  part-look : (x : ℕ) → look (keptPart e kept) x ≡ freshRows limit t x
   unfolding keptPart
   part-look x = ap (λ (n : ℕ). look (take (place n) kept) x) rows-same ∙ ap (λ (f : ℕ → Term). f x) (part-rows t kept own)
 
-  same-rules : (x : ℕ) → freshRows t x ≡ result (modulus e) LIMIT (look t) x
+  same-rules : (x : ℕ) → freshRows limit t x ≡ result (modulus e) limit (look t) x
   unfolding freshRows
-  same-rules x = ap (λ (M : ℕ). result M LIMIT (look t) x) (sym modulus-same)
+  same-rules x = ap (λ (M : ℕ). result M limit (look t) x) (sym modulus-same)
 
-  pub untouched-fresh : (x : ℕ) → isTouched t e r x ≡ false → freshRows t x ≡ freshRows e x
+  pub untouched-fresh : (x : ℕ) → isTouched t e r x ≡ false → freshRows limit t x ≡ freshRows limit e x
   unfolding freshRows isTouched
-  untouched-fresh x h = same-rules x ∙ untouched-result (modulus e) LIMIT (look t) (look e) r alike below below′ x h
+  untouched-fresh x h = same-rules x ∙ untouched-result (modulus e) limit (look t) (look e) r alike below below′ x h
 
-  pub edited-rows : (x : ℕ) → editedRows t e r kept x ≡ freshRows e x
+  pub edited-rows : (x : ℕ) → editedRows limit t e r kept x ≡ freshRows limit e x
   unfolding editedRows freshRows isTouched
   edited-rows x =
-      ap (λ (f : ℕ → Term). renewed (modulus e) LIMIT (isTouched t e r) (look e) f x) (fun-ext (λ (y : ℕ). part-look y ∙ same-rules y)) ∙
-      edit-is-run (modulus e) LIMIT (look t) (look e) r alike below below′ x
+      ap (λ (f : ℕ → Term). renewed (modulus e) limit (isTouched t e r) (look e) f x) (fun-ext (λ (y : ℕ). part-look y ∙ same-rules y)) ∙
+      edit-is-run (modulus e) limit (look t) (look e) r alike below below′ x
 
-  pub edited-bytes : editedBytes t e r kept ≡ freshBytes e kept
+  pub edited-bytes : editedBytes limit t e r kept ≡ freshBytes limit e kept
   unfolding editedBytes freshBytes isTouched
   edited-bytes =
-      put-rows-same (isTouched t e r) (isTouched t e r) (editedRows t e r kept) (freshRows e) (sourceAt e) (rows e) kept (λ x l. refl) (λ x l. edited-rows x) ∙
-      rows-alike (freshRows e) (sourceAt e) (isTouched t e r) (λ x. true) (rows e) kept there ∙
-      ap (putRows (λ x. true) (freshRows e) (sourceAt e) (rows e)) (sym (head-there e kept (own-head t kept own ∙ sym same-head)))
+      put-rows-same (isTouched t e r) (isTouched t e r) (editedRows limit t e r kept) (freshRows limit e) (sourceAt e) (rows e) kept (λ x l. refl) (λ x l. edited-rows x) ∙
+      rows-alike (freshRows limit e) (sourceAt e) (isTouched t e r) (λ x. true) (rows e) kept there ∙
+      ap (putRows (λ x. true) (freshRows limit e) (sourceAt e) (rows e)) (sym (head-there e kept (own-head t kept own ∙ sym same-head)))
     where
-      there : (x : ℕ) → x < rows e → (isTouched t e r x ≡ true → ⊥) → rowBytes kept x ≡ bytesOf (rowOf (freshRows e x)) (sourceAt e x)
+      there : (x : ℕ) → x < rows e → (isTouched t e r x ≡ true → ⊥) → rowBytes kept x ≡ bytesOf (rowOf (freshRows limit e x)) (sourceAt e x)
       there x l other =
           ap (λ (b : List ℕ). rowBytes b x) (sym (own-fresh t kept own)) ∙
-          fresh-there t kept (own-accepted t kept own) (own-room t kept own) x (rw rows-same at l) ∙
+          fresh-there limit t kept (own-accepted t kept own) (own-room t kept own) x (rw rows-same at l) ∙
           ap₂ (λ (u : Term) (s : ℕ). bytesOf (rowOf u) s)
           (untouched-fresh x (test-case (isTouched t e r x) (λ h. absurd (other h)) (λ h. h)))
           (same-source x (λ same. other (is-touched-in (look t) (look e) r alike below′ x (inl same))))

@@ -1,4 +1,4 @@
--- With the table's own kept result, 16 is given exactly where the edit changes row r between word and array: document 01, "Edit".
+-- With the table's own kept result, made with any limit, 16 is given exactly where the edit changes row r between word and array: document 01, "Edit".
 use Prim.Native.Nat.{ℕ}
 use native.Mathlib.Decide.{ℕ-discrete}
 use mathlib.Core.Path.{_≡_, refl, ap, sym, _∙_}
@@ -35,11 +35,13 @@ unlike-beq false true h = refl
 unlike-beq false false h = absurd (h refl)
 
 module _
+    {made : ℕ}
     (t kept : List ℕ)
     (r : ℕ)
     (new : List ℕ)
-    (own : Own t kept)
-    (numbers : first (editReasons t kept r new) ≡ 0)
+    (limit : ℕ)
+    (own : Own made t kept)
+    (numbers : first (editReasons t kept r new limit) ≡ 0)
     (scanned : checkRows (edited t r new) accepted ≡ accepted)
   where
     abbrev e : List ℕ
@@ -48,8 +50,8 @@ module _
     abbrev part : List ℕ
     part = keptPart t kept
 
-    ready : EditReady t kept r new
-    ready = edit-ready t kept r new numbers
+    ready : EditReady t kept r new limit
+    ready = edit-ready t kept r new limit numbers
 
     edited-head : take HEADER e ≡ take HEADER t
     unfolding edited
@@ -59,7 +61,7 @@ module _
     unfolding look edited
     others x other = ap (λ y. isArray (termOf y)) (row-stays t r new (ready .long) x other)
 
-    verdict : editVerdict t kept r new ≡ keptVerdict e part accepted
+    verdict : editVerdict t kept r new limit ≡ keptVerdict e part accepted
     unfolding editVerdict
     verdict = given-passes _ 0 _ numbers ∙ after-rows e (keptVerdict e part accepted) scanned
 
@@ -67,7 +69,7 @@ module _
     edited-rows = same-rows e t edited-head
 
     -- the sort of row r stays: the edit is accepted
-    pub same-sort-accepted : isArray (look e r) ≡ isArray (look t r) → isAccepted (editVerdict t kept r new) ≡ true
+    pub same-sort-accepted : isArray (look e r) ≡ isArray (look t r) → isAccepted (editVerdict t kept r new limit) ≡ true
     unfolding accepted refuse
     same-sort-accepted same =
         accepted-is _
@@ -80,7 +82,7 @@ module _
         sorts x = dite (ℕ-discrete x r) (λ (same-row : x ≡ r). rw same-row same) (λ (other : x ≡ r → ⊥). others x other)
 
     -- it changes: 16
-    pub other-sort-refused : (isArray (look e r) ≡ isArray (look t r) → ⊥) → editVerdict t kept r new ≡ refuse 16 0
+    pub other-sort-refused : (isArray (look e r) ≡ isArray (look t r) → ⊥) → editVerdict t kept r new limit ≡ refuse 16 0
     unfolding keptWrong otherSorts
     other-sort-refused other =
         verdict ∙

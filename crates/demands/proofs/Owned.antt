@@ -25,7 +25,7 @@ use Rattle.term.proofs.Accepted.{accepted-formed}
 use Rattle.judge.specs.Kept.{keptPart, otherHeader, otherSorts, keptWrong}
 use Rattle.judge.proofs.Verdicts.{accepted-is}
 use Rattle.judge.proofs.Granted.{run-granted}
-use Rattle.simplify.specs.Answer.{modulus, LIMIT}
+use Rattle.simplify.specs.Answer.{modulus}
 use Rattle.simplify.specs.Run.{freshRows, freshBytes}
 use Rattle.demands.specs.Own.{Own}
 use Rattle.demands.proofs.Fresh.{run-leaves, fresh-head, fresh-look, fresh-accepted}
@@ -54,39 +54,40 @@ goes-with t part passes head sorts =
     (λ i l. ap not (eq-eqb (byte part i) (byte t i) (sym (getD-take HEADER part i 0 l) ∙ ap (λ (h : List ℕ). byte h i) head ∙ getD-take HEADER t i 0 l)))))
     (none-below _ (rows t) (λ x l. alike-beq _ _ (sorts x)))
 
-module _ (t kept : List ℕ) (own : Own t kept) where
+-- made with any limit
+module _ {limit : ℕ} (t kept : List ℕ) (own : Own limit t kept) where
   pub own-accepted : Accepted t
-  own-accepted = accepted-gives t (run-granted t kept (own .accepted) .table)
+  own-accepted = accepted-gives t (run-granted t kept limit (own .accepted) .table)
 
   pub own-room : length t ≤ length kept
-  own-room = run-granted t kept (own .accepted) .roomy .room
+  own-room = run-granted t kept limit (own .accepted) .roomy .room
 
-  pub own-fresh : freshBytes t kept ≡ kept
-  own-fresh = sym (run-leaves t kept (own .accepted)) ∙ own .settled
+  pub own-fresh : freshBytes limit t kept ≡ kept
+  own-fresh = sym (run-leaves t kept limit (own .accepted)) ∙ own .settled
 
   pub own-head : take HEADER kept ≡ take HEADER t
-  own-head = ap (take HEADER) (sym own-fresh) ∙ fresh-head t kept own-accepted own-room
+  own-head = ap (take HEADER) (sym own-fresh) ∙ fresh-head limit t kept own-accepted own-room
 
   -- its part: as much of the fresh result as the table is long
-  part-fresh : take (length t) (freshBytes t kept) ≡ keptPart t kept
+  part-fresh : take (length t) (freshBytes limit t kept) ≡ keptPart t kept
   unfolding keptPart
   part-fresh = ap (take (length t)) own-fresh ∙ ap (λ (n : ℕ). take n kept) (own-accepted .head .size)
 
   pub part-accepted : checkTable (keptPart t kept) ≡ accepted
-  part-accepted = gives-accepted (keptPart t kept) (subst Accepted part-fresh (fresh-accepted t kept own-accepted own-room))
+  part-accepted = gives-accepted (keptPart t kept) (subst Accepted part-fresh (fresh-accepted limit t kept own-accepted own-room))
 
   pub part-head : take HEADER (keptPart t kept) ≡ take HEADER t
   unfolding keptPart
   part-head = take-take HEADER (place (rows t)) kept (header-below (rows t)) ∙ own-head
 
-  pub part-rows : look (keptPart t kept) ≡ freshRows t
-  part-rows = ap look (sym part-fresh) ∙ fun-ext (fresh-look t kept own-accepted own-room)
+  pub part-rows : look (keptPart t kept) ≡ freshRows limit t
+  part-rows = ap look (sym part-fresh) ∙ fun-ext (fresh-look limit t kept own-accepted own-room)
 
   pub part-sort : (x : ℕ) → isArray (look (keptPart t kept) x) ≡ isArray (look t x)
   unfolding freshRows modulus
   part-sort x =
       ap (λ (f : ℕ → Term). isArray (f x)) part-rows ∙
-      result-sort (2 ^ width t) LIMIT (pow-pos (width t)) (look t) (accepted-formed t own-accepted) x
+      result-sort (2 ^ width t) limit (pow-pos (width t)) (look t) (accepted-formed t own-accepted) x
 
   -- it goes with the table
   pub part-goes : keptWrong t (keptPart t kept) ≡ false

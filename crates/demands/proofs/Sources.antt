@@ -31,14 +31,14 @@ use Rattle.term.specs.Bytes.{look, edited}
 use Rattle.term.proofs.Acceptable.{same-rows}
 use Rattle.term.proofs.Placed.{put-rows-source}
 use Rattle.judge.specs.Verdict.{isAccepted}
-use Rattle.judge.specs.Run.{roomReasons, runVerdict}
+use Rattle.judge.specs.Run.{roomReasons, runReasons, runVerdict}
 use Rattle.judge.specs.Kept.{keptPart, otherHeader, otherSorts, keptWrong, keptVerdict}
 use Rattle.judge.specs.Edit.{editReasons}
 use Rattle.judge.specs.Ask.{pairReasons, arrayReasons, arrayVerdict}
 use Rattle.judge.proofs.Granted.{EditReady, edit-ready, RunGranted, run-granted}
 use Rattle.simplify.specs.Answer.{answer}
-use Rattle.simplify.specs.Run.{freshRows, freshBytes, runAnswer, runResult}
-use Rattle.simplify.specs.Edit.{editVerdict, isTouched, editedRows, editedBytes, touchedRows, editAnswer, editTable, editKept}
+use Rattle.simplify.specs.Run.{freshRows, freshBytes, freshRemoved, freshCompared, runAnswer, runResult}
+use Rattle.simplify.specs.Edit.{editVerdict, isTouched, editedRows, editedBytes, editedRemoved, touchedRows, editedCompared, editAnswer, editTable, editKept}
 use Rattle.simplify.proofs.Granted.{edit-granted}
 use Rattle.question.specs.Ask.{askVerdict, keptRows, askReason, askAnswer}
 use Rattle.demands.specs.Sources.{AlikeButSources, RowAlike}
@@ -49,30 +49,31 @@ use Rattle.demands.proofs.Demand3.{edited-long, edited-head, edited-pas
 
 -- ---- a result row carries the source of its own row of the table
 
-pub run-carries : (t buffer : List ℕ) → isAccepted (runVerdict t buffer) ≡ true → (x : ℕ) → x < rows t → sourceAt (runResult t buffer) x ≡ sourceAt t x
+pub run-carries : (t buffer : List ℕ) (limit : ℕ) → isAccepted (runVerdict t buffer limit) ≡ true → (x : ℕ) → x < rows t →
+    sourceAt (runResult t buffer limit) x ≡ sourceAt t x
 unfolding freshBytes
-run-carries t buffer granted x l =
-    let is : RunGranted t buffer = run-granted t buffer granted in
+run-carries t buffer limit granted x l =
+    let is : RunGranted t buffer limit = run-granted t buffer limit granted in
     let ok : Accepted t = accepted-gives t (is .table) in
-    ap (λ (b : List ℕ). sourceAt b x) (run-leaves t buffer granted) ∙
-    put-rows-source (λ y. true) (freshRows t) (sourceAt t) (rows t) (sets buffer 0 (take HEADER t)) (rw (length-sets, ← ok .head .size) (is .roomy .room))
+    ap (λ (b : List ℕ). sourceAt b x) (run-leaves t buffer limit granted) ∙
+    put-rows-source (λ y. true) (freshRows limit t) (sourceAt t) (rows t) (sets buffer 0 (take HEADER t)) (rw (length-sets, ← ok .head .size) (is .roomy .room))
     (source-small t) x l
 
 -- so does each row that an edit works out anew; the others keep all their bytes (Demand3's `others-stay`)
-module _ (t kept : List ℕ) (r : ℕ) (new : List ℕ) (granted : isAccepted (editVerdict t kept r new) ≡ true) where
+module _ (t kept : List ℕ) (r : ℕ) (new : List ℕ) (limit : ℕ) (granted : isAccepted (editVerdict t kept r new limit) ≡ true) where
   abbrev e : List ℕ
   e = edited t r new
 
-  pub edit-carries : (x : ℕ) → x < rows t → (x ≡ r) ⊎ LeadsBack (seen (look t)) r x ⊎ LeadsBack (seen (look (editTable t kept r new))) r x →
-      sourceAt (editKept t kept r new) x ≡ sourceAt (editTable t kept r new) x
+  pub edit-carries : (x : ℕ) → x < rows t → (x ≡ r) ⊎ LeadsBack (seen (look t)) r x ⊎ LeadsBack (seen (look (editTable t kept r new limit))) r x →
+      sourceAt (editKept t kept r new limit) x ≡ sourceAt (editTable t kept r new limit) x
   unfolding editedBytes
   edit-carries x l led =
-      let left : editTable t kept r new ≡ e = table-left t kept r new granted in
+      let left : editTable t kept r new limit ≡ e = table-left t kept r new limit granted in
       let led′ : (x ≡ r) ⊎ LeadsBack (seen (look t)) r x ⊎ LeadsBack (seen (look e)) r x = rw left at led in
-      ap (λ (b : List ℕ). sourceAt b x) (kept-left t kept r new granted) ∙
-      put-rows-source (isTouched t e r) (editedRows t e r kept) (sourceAt e) (rows e) kept (edited-room t kept r new granted) (source-small e) x
-      (rw (same-rows e t (edited-head t kept r new granted)) l) ∙
-      pick-true (isTouched t e r x) _ _ (edited-touched t kept r new granted x led′) ∙
+      ap (λ (b : List ℕ). sourceAt b x) (kept-left t kept r new limit granted) ∙
+      put-rows-source (isTouched t e r) (editedRows limit t e r kept) (sourceAt e) (rows e) kept (edited-room t kept r new limit granted) (source-small e) x
+      (rw (same-rows e t (edited-head t kept r new limit granted)) l) ∙
+      pick-true (isTouched t e r x) _ _ (edited-touched t kept r new limit granted x led′) ∙
       ap (λ (b : List ℕ). sourceAt b x) (sym left)
 
 -- ---- inputs that are the same but for sources
@@ -89,27 +90,28 @@ module _ (s t b c : List ℕ) (tables : AlikeButSources s t) (buffers : AlikeBut
   unfolding roomReasons
   room-alike = rw (head-alike s t tables, tables .long, buffers .long)
 
-  verdict-alike : runVerdict s b ≡ runVerdict t c
-  unfolding runVerdict
-  verdict-alike = rw (room-alike, scan-alike s t tables accepted)
+  verdict-alike : (limit : ℕ) → runVerdict s b limit ≡ runVerdict t c limit
+  unfolding runVerdict runReasons
+  verdict-alike limit = rw (room-alike, scan-alike s t tables accepted)
 
-  fresh-left : Accepted s → length s ≤ length b → AlikeButSources (freshBytes s b) (freshBytes t c)
+  fresh-left : (limit : ℕ) → Accepted s → length s ≤ length b → AlikeButSources (freshBytes limit s b) (freshBytes limit t c)
   unfolding freshBytes
-  fresh-left passed fits =
+  fresh-left limit passed fits =
       let long : HEADER ≤ length s = rw (passed .head .size) (header-below (rows s)) in
-      rw (← fresh-alike s t tables, ← rows-alike s t tables, ← tables .header)
-      (put-rows-alike (λ x. true) (freshRows s) (sourceAt s) (sourceAt t) (rows s) (sets b 0 (take HEADER s)) (sets c 0 (take HEADER s))
+      rw (← fresh-alike s t tables limit, ← rows-alike s t tables, ← tables .header)
+      (put-rows-alike (λ x. true) (freshRows limit s) (sourceAt s) (sourceAt t) (rows s) (sets b 0 (take HEADER s)) (sets c 0 (take HEADER s))
       (rw (length-sets, ← passed .head .size) fits) (header-alike b c s long (omega arith) buffers))
 
-  pub run-answers-alike : runAnswer s b ≡ runAnswer t c
-  unfolding runAnswer
-  run-answers-alike = rw (verdict-alike, look-alike s t tables, fresh-alike s t tables, rows-alike s t tables)
+  pub run-answers-alike : (limit : ℕ) → runAnswer s b limit ≡ runAnswer t c limit
+  unfolding runAnswer freshRemoved freshCompared
+  run-answers-alike limit =
+      rw (verdict-alike limit, look-alike s t tables, fresh-alike s t tables limit, rows-alike s t tables, modulus-alike s t tables)
 
-  pub run-leaves-alike : AlikeButSources (runResult s b) (runResult t c)
+  pub run-leaves-alike : (limit : ℕ) → AlikeButSources (runResult s b limit) (runResult t c limit)
   unfolding runResult
-  run-leaves-alike =
-      left-alike _ _ verdict-alike
-      (λ h. let is : RunGranted s b = run-granted s b h in fresh-left (accepted-gives s (is .table)) (is .roomy .room)) buffers
+  run-leaves-alike limit =
+      left-alike _ _ (verdict-alike limit)
+      (λ h. let is : RunGranted s b limit = run-granted s b limit h in fresh-left limit (accepted-gives s (is .table)) (is .roomy .room)) buffers
 
   -- the part of a kept result
   kept-alike : AlikeButSources (keptPart s b) (keptPart t c)
@@ -160,34 +162,34 @@ module _ (s t b c : List ℕ) (tables : AlikeButSources s t) (results : AlikeBut
       rw (asked-alike, modulus-alike s t tables, look-alike (keptPart s b) (keptPart t c) (kept-alike s t b c tables results))
 
 -- an edit
-module _ (t u kept held : List ℕ) (r : ℕ) (new brought : List ℕ)
+module _ (t u kept held : List ℕ) (r : ℕ) (new brought : List ℕ) (limit : ℕ)
     (tables : AlikeButSources t u) (results : AlikeButSources kept held) (replacements : RowAlike new brought) where
-  numbers-alike : editReasons t kept r new ≡ editReasons u held r brought
+  numbers-alike : editReasons t kept r new limit ≡ editReasons u held r brought limit
   unfolding editReasons
   numbers-alike = rw (room-alike t u kept held tables results, rows-alike t u tables, replacements .long)
 
-  -- where none of 1 to 8 holds, the two edited tables
-  edited-alike : EditReady t kept r new → AlikeButSources (edited t r new) (edited u r brought)
+  -- where none of 1 to 8 and 19 holds, the two edited tables
+  edited-alike : EditReady t kept r new limit → AlikeButSources (edited t r new) (edited u r brought)
   unfolding edited
   edited-alike ready = sets-alike t u r new brought (ready .long) (room-in t (ready .row) (good-head t (ready .roomy .head) .size)) tables replacements
 
-  edit-judged : editVerdict t kept r new ≡ editVerdict u held r brought
+  edit-judged : editVerdict t kept r new limit ≡ editVerdict u held r brought limit
   unfolding editVerdict
   edit-judged =
-      let numbers : first (editReasons t kept r new) ≡ first (editReasons u held r brought) = ap first numbers-alike in
-      dite (ℕ-discrete (first (editReasons t kept r new)) 0)
-      (λ (z : first (editReasons t kept r new) ≡ 0).
-      let ready : EditReady t kept r new = edit-ready t kept r new z in
+      let numbers : first (editReasons t kept r new limit) ≡ first (editReasons u held r brought limit) = ap first numbers-alike in
+      dite (ℕ-discrete (first (editReasons t kept r new limit)) 0)
+      (λ (z : first (editReasons t kept r new limit) ≡ 0).
+      let ready : EditReady t kept r new limit = edit-ready t kept r new limit z in
       given-passes _ 0 _ z ∙
       scan-alike (edited t r new) (edited u r brought) (edited-alike ready) (keptVerdict (edited t r new) (keptPart t kept) accepted) ∙
       ap (checkRows (edited u r brought))
       (kept-judged (edited t r new) (edited u r brought) (keptPart t kept) (keptPart u held) (edited-alike ready)
       (kept-alike t u kept held tables results) accepted) ∙
       sym (given-passes _ 0 _ (sym numbers ∙ z)))
-      (λ (n : first (editReasons t kept r new) ≡ 0 → ⊥).
+      (λ (n : first (editReasons t kept r new limit) ≡ 0 → ⊥).
       given-refuses _ 0 _ n ∙ ap (λ (k : ℕ). refuse k 0) numbers ∙ sym (given-refuses _ 0 _ (λ z. n (numbers ∙ z))))
 
-  edited-rows-alike : EditReady t kept r new → editedRows t (edited t r new) r kept ≡ editedRows u (edited u r brought) r held
+  edited-rows-alike : EditReady t kept r new limit → editedRows limit t (edited t r new) r kept ≡ editedRows limit u (edited u r brought) r held
   unfolding editedRows isTouched
   edited-rows-alike ready =
       let edits = edited-alike ready in
@@ -199,8 +201,8 @@ module _ (t u kept held : List ℕ) (r : ℕ) (new brought : List ℕ)
         look-alike (keptPart (edited t r new) kept) (keptPart (edited u r brought) held) parts,
       )
 
-  counts : EditReady t kept r new → editAnswer t kept r new ≡ editAnswer u held r brought
-  unfolding editAnswer touchedRows isTouched
+  counts : EditReady t kept r new limit → editAnswer t kept r new limit ≡ editAnswer u held r brought limit
+  unfolding editAnswer editedRemoved touchedRows editedCompared isTouched
   counts ready =
       let edits = edited-alike ready in
       rw (
@@ -208,37 +210,38 @@ module _ (t u kept held : List ℕ) (r : ℕ) (new brought : List ℕ)
         edited-rows-alike ready,
         look-alike t u tables,
         look-alike (edited t r new) (edited u r brought) edits,
-        rows-alike t u tables,
         rows-alike (edited t r new) (edited u r brought) edits,
+        modulus-alike (edited t r new) (edited u r brought) edits,
       )
 
-  pub edit-answers-alike : editAnswer t kept r new ≡ editAnswer u held r brought
+  pub edit-answers-alike : editAnswer t kept r new limit ≡ editAnswer u held r brought limit
   edit-answers-alike =
-      test-case (isAccepted (editVerdict t kept r new))
-      (λ (h : isAccepted (editVerdict t kept r new) ≡ true). counts (edit-granted t kept r new h .ready))
-      (λ (h : isAccepted (editVerdict t kept r new) ≡ false).
-      edit-counts-nothing t kept r new h ∙ ap (λ (v : Verdict). answer (v .number) (v .row) 0 0) edit-judged ∙
-      sym (edit-counts-nothing u held r brought (ap isAccepted (sym edit-judged) ∙ h)))
+      test-case (isAccepted (editVerdict t kept r new limit))
+      (λ (h : isAccepted (editVerdict t kept r new limit) ≡ true). counts (edit-granted t kept r new limit h .ready))
+      (λ (h : isAccepted (editVerdict t kept r new limit) ≡ false).
+      edit-counts-nothing t kept r new limit h ∙ ap (λ (v : Verdict). answer (v .number) (v .row) 0 0 0) edit-judged ∙
+      sym (edit-counts-nothing u held r brought limit (ap isAccepted (sym edit-judged) ∙ h)))
 
-  pub edit-table-alike : AlikeButSources (editTable t kept r new) (editTable u held r brought)
+  pub edit-table-alike : AlikeButSources (editTable t kept r new limit) (editTable u held r brought limit)
   unfolding editTable
-  edit-table-alike = left-alike _ _ edit-judged (λ h. edited-alike (edit-granted t kept r new h .ready)) tables
+  edit-table-alike = left-alike _ _ edit-judged (λ h. edited-alike (edit-granted t kept r new limit h .ready)) tables
 
-  rows-put : isAccepted (editVerdict t kept r new) ≡ true → AlikeButSources (editedBytes t (edited t r new) r kept) (editedBytes u (edited u r brought) r held)
+  rows-put : isAccepted (editVerdict t kept r new limit) ≡ true →
+      AlikeButSources (editedBytes limit t (edited t r new) r kept) (editedBytes limit u (edited u r brought) r held)
   unfolding editedBytes isTouched
   rows-put h =
-      let ready : EditReady t kept r new = edit-granted t kept r new h .ready in
+      let ready : EditReady t kept r new limit = edit-granted t kept r new limit h .ready in
       let edits = edited-alike ready in
-      let passed : Accepted (edited t r new) = accepted-gives (edited t r new) (edited-passes t kept r new h) in
+      let passed : Accepted (edited t r new) = accepted-gives (edited t r new) (edited-passes t kept r new limit h) in
       rw (
         ← edited-rows-alike ready,
         ← look-alike t u tables,
         ← look-alike (edited t r new) (edited u r brought) edits,
         ← rows-alike (edited t r new) (edited u r brought) edits,
       )
-      (put-rows-alike (touchedIn (look t) (look (edited t r new)) r) (editedRows t (edited t r new) r kept) (sourceAt (edited t r new)) (sourceAt (edited u r brought))
-      (rows (edited t r new)) kept held (rw (← passed .head .size, edited-long t kept r new h) (ready .roomy .room)) results)
+      (put-rows-alike (touchedIn (look t) (look (edited t r new)) r) (editedRows limit t (edited t r new) r kept) (sourceAt (edited t r new))
+      (sourceAt (edited u r brought)) (rows (edited t r new)) kept held (rw (← passed .head .size, edited-long t kept r new limit h) (ready .roomy .room)) results)
 
-  pub edit-kept-alike : AlikeButSources (editKept t kept r new) (editKept u held r brought)
+  pub edit-kept-alike : AlikeButSources (editKept t kept r new limit) (editKept u held r brought limit)
   unfolding editKept
   edit-kept-alike = left-alike _ _ edit-judged rows-put results

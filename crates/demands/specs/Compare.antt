@@ -1,5 +1,5 @@
 -- The comparison of document 01, which makes a fresh run and then tells what is known of two rows. No function answers it: it is what a question
--- about a kept result is held to (document 02, A6).
+-- about a kept result is held to (document 02, A6), at the limit that the kept result was made with (A8).
 use Prim.Native.Nat.{ℕ}
 use mathlib.Core.Bool.{cond}
 use mathlib.Core.List.{List}
@@ -19,9 +19,9 @@ unfoldable pub compareVerdict : List ℕ → List ℕ → ℕ → ℕ → Verdic
 compareVerdict t buffer x y = given (first (pairReasons t buffer x y)) 0 (checkRows t (arrayVerdict t x y))
 
 -- what is known of two rows of a table's fresh result
-unfoldable pub freshRelation : List ℕ → ℕ → ℕ → Relation
-freshRelation t x y = related (freshRows t) (rangeOf (modulus t) (freshRows t)) x y
+unfoldable pub freshRelation : ℕ → List ℕ → ℕ → ℕ → Relation
+freshRelation limit t x y = related (freshRows limit t) (rangeOf (modulus t) (freshRows limit t)) x y
 
 -- not known on refusal
-unfoldable pub compareRelation : List ℕ → List ℕ → ℕ → ℕ → Relation
-compareRelation t buffer x y = cond (isAccepted (compareVerdict t buffer x y)) (freshRelation t x y) Unknown
+unfoldable pub compareRelation : ℕ → List ℕ → List ℕ → ℕ → ℕ → Relation
+compareRelation limit t buffer x y = cond (isAccepted (compareVerdict t buffer x y)) (freshRelation limit t x y) Unknown

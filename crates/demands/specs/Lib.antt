@@ -2,3 +2,4 @@
 pub mod Own
 pub mod Compare
 pub mod Sources
+pub mod Former

@@ -15,13 +15,13 @@ use Rattle.simplify.specs.Edit.{editVerdict, editTable, editKept}
 unfoldable pub rowsIn : List ℕ → List ℕ → ℕ → Term
 rowsIn t buffer = look (take (length t) buffer)
 
--- a kept result is the table's own where a fresh run of the table into it is accepted and changes no byte of it
-pub record Own (t kept : List ℕ) : Type 0 where
-  pub accepted : isAccepted (runVerdict t kept) ≡ true
-  pub settled : runResult t kept ≡ kept
+-- a kept result is the table's own, made with a limit, where a fresh run of the table with that limit into it is accepted and changes no byte of it
+pub record Own (limit : ℕ) (t kept : List ℕ) : Type 0 where
+  pub accepted : isAccepted (runVerdict t kept limit) ≡ true
+  pub settled : runResult t kept limit ≡ kept
 
--- edits in a row, each accepted: from a table and a kept result to what they are in the end
-pub data Edits : List ℕ → List ℕ → List ℕ → List ℕ → Type 0 where
-  none : {t kept : List ℕ} → Edits t kept t kept
-  one : {t kept t′ kept′ : List ℕ} (r : ℕ) (replacement : List ℕ) → isAccepted (editVerdict t kept r replacement) ≡ true →
-      Edits (editTable t kept r replacement) (editKept t kept r replacement) t′ kept′ → Edits t kept t′ kept′
+-- edits in a row, each accepted and all with one limit: from a table and a kept result to what they are in the end
+pub data Edits (limit : ℕ) : List ℕ → List ℕ → List ℕ → List ℕ → Type 0 where
+  none : {t kept : List ℕ} → Edits limit t kept t kept
+  one : {t kept t′ kept′ : List ℕ} (r : ℕ) (replacement : List ℕ) → isAccepted (editVerdict t kept r replacement limit) ≡ true →
+      Edits limit (editTable t kept r replacement limit) (editKept t kept r replacement limit) t′ kept′ → Edits limit t kept t′ kept′

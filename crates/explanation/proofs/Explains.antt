@@ -28,17 +28,20 @@ use Rattle.term.proofs.Looked.{small-term}
 use Rattle.term.proofs.Placed.{put-rows-row}
 use Rattle.term.proofs.WellFormed.{formed-below, result-sort, result-formed}
 use Rattle.text.specs.Text.{Put}
-use Rattle.simplify.specs.Answer.{LIMIT, modulus}
-use Rattle.simplify.specs.Copy.{Rooms}
+use Rattle.judge.specs.Run.{LIMIT}
+use Rattle.simplify.specs.Answer.{modulus}
+use Rattle.copying.specs.Copy.{Rooms}
+use Rattle.renew.specs.declared.Counts.{Counts}
 use Rattle.simplify.specs.Fresh.{Freshly}
 use Rattle.simplify.specs.Run.{freshRows, freshBytes}
 use Rattle.simplify.proofs.FreshRun.{fresh-length}
 use Rattle.explanation.specs.declared.Listing.{Listing}
 use Rattle.listing.specs.List.{readLine, resultLine, list, listFor, most}
-use Rattle.explanation.specs.Ready.{Listable, Explainable}
+use Rattle.tracing.specs.Ready.{Listable}
+use Rattle.tracing.proofs.Local.{lines-local}
+use Rattle.explanation.specs.Ready.{Explainable}
 use Rattle.explanation.specs.Why.{listOf, listing, Explained}
 use Rattle.explanation.proofs.Granted.{explained-short, explained-fits}
-use Rattle.explanation.proofs.Local.{lines-local}
 use Rattle.explanation.proofs.Restored.{restored}
 
 module _ (t buffer : List ℕ) (x : ℕ) (can : Explainable t buffer x) where
@@ -56,33 +59,33 @@ module _ (t buffer : List ℕ) (x : ℕ) (can : Explainable t buffer x) where
   explain-saves space long = record { source = omega (arith, can .room); target = omega (arith, small, long) }
 
   -- the rows of the fresh result
-  formed : WellFormed (2 ^ width t) (freshRows t)
+  formed : WellFormed (2 ^ width t) (freshRows LIMIT t)
   unfolding freshRows modulus
   formed = result-formed (2 ^ width t) LIMIT (pow-pos (width t)) (look t) (accepted-formed t ok)
 
-  fresh-sort : (y : ℕ) → isArray (freshRows t y) ≡ isArray (look t y)
+  fresh-sort : (y : ℕ) → isArray (freshRows LIMIT t y) ≡ isArray (look t y)
   unfolding freshRows modulus
   fresh-sort = result-sort (2 ^ width t) LIMIT (pow-pos (width t)) (look t) (accepted-formed t ok)
 
-  below : (y : ℕ) → NamesBelow y (freshRows t y)
-  below = formed-below (2 ^ width t) (freshRows t) formed
+  below : (y : ℕ) → NamesBelow y (freshRows LIMIT t y)
+  below = formed-below (2 ^ width t) (freshRows LIMIT t) formed
 
-  fits-fields : (y : ℕ) → y < rows t → Small (rowOf (freshRows t y))
+  fits-fields : (y : ℕ) → y < rows t → Small (rowOf (freshRows LIMIT t y))
   unfolding freshRows modulus
   fits-fields y l =
-      small-term (2 ^ width t) y (pow-mono (ok .head .width-high)) (let few : rows t ≤ MOST = ok .head .few in omega arith) (freshRows t y) (formed .fits y)
+      small-term (2 ^ width t) y (pow-mono (ok .head .width-high)) (let few : rows t ≤ MOST = ok .head .few in omega arith) (freshRows LIMIT t y) (formed .fits y)
       (run-names-small LIMIT t ok y) (below y)
 
-  module _ {left store : List ℕ} {removed : ℕ} (run : Freshly t buffer left store removed) where
+  module _ {left store : List ℕ} {counts : Counts} (run : Freshly t buffer LIMIT left store counts) where
     long : length left ≡ length buffer
-    long = ap length (run .result) ∙ fresh-length t buffer
+    long = ap length (run .result) ∙ fresh-length LIMIT t buffer
 
     -- the result row, as its bytes have it
-    row-left : rowAt left x ≡ rowOf (freshRows t x)
+    row-left : rowAt left x ≡ rowOf (freshRows LIMIT t x)
     unfolding freshBytes
     row-left =
         ap (λ (l : List ℕ). rowAt l x) (run .result) ∙
-        put-rows-row (λ y. true) (freshRows t) (sourceAt t) (rows t) (sets buffer 0 (take HEADER t)) (rw (length-sets, ← ok .head .size) (can .room))
+        put-rows-row (λ y. true) (freshRows LIMIT t) (sourceAt t) (rows t) (sets buffer 0 (take HEADER t)) (rw (length-sets, ← ok .head .size) (can .room))
         (λ y l e. fits-fields y l) x (can .row)
 
     names-left : (y : ℕ) → y < rows t → NamesBelow y (look left y)
@@ -105,7 +108,7 @@ module _ (t buffer : List ℕ) (x : ℕ) (can : Explainable t buffer x) where
     -- the list over the bytes is that of the promise
     list-by : (u : Term) → Names (Below (look t) x) u
         → listFor (modulus t) LIMIT (look left) (kept store) (sourceAt t) x (rowAt left x) u ≡
-        listFor (modulus t) LIMIT (freshRows t) (rangeOf (modulus t) (freshRows t)) (sourceAt t) x (rowOf (freshRows t x)) u
+        listFor (modulus t) LIMIT (freshRows LIMIT t) (rangeOf (modulus t) (freshRows LIMIT t)) (sourceAt t) x (rowOf (freshRows LIMIT t x)) u
     unfolding listFor list
     list-by (const k) n = refl
     list-by (var name k h) n = refl
@@ -117,7 +120,7 @@ module _ (t buffer : List ℕ) (x : ℕ) (can : Explainable t buffer x) where
         let array : m < rows t = omega (arith, n .0 .below, can .row) in
         let index : i < rows t = omega (arith, n .1 .below, can .row) in
         ap₂ (λ (ws : List ℕ) (y : Row). readLine (sourceAt t x) x m i ++ ws ++ resultLine x y (sourceAt t x))
-        (sym (lines-local (modulus t) (rows t) (freshRows t) (look left) (rangeOf (modulus t) (freshRows t)) (kept store) (sourceAt t) (λ y l. formed .names y)
+        (sym (lines-local (modulus t) (rows t) (freshRows LIMIT t) (look left) (rangeOf (modulus t) (freshRows LIMIT t)) (kept store) (sourceAt t) (λ y l. formed .names y)
         (λ y l. sym (run .rows-are y l)) (λ y l word. sym (run .ranges-are y l (sym (fresh-sort y) ∙ word))) i index (fresh-sort i ∙ n .1 .sort) LIMIT m array))
         row-left
     list-by fresh n = refl
@@ -149,6 +152,6 @@ module _ (t buffer : List ℕ) (x : ℕ) (can : Explainable t buffer x) where
 
       pub explain-fits : {space listed : List ℕ} {n e : ℕ} → size ≤ length space
           → Put space 0 (listFor (modulus t) LIMIT (look left) (kept store) (sourceAt t) x (rowAt left x) (look t x)) (most (LIMIT + 1)) listed e → Read (rows t) 65536 n
-          → Explained t buffer x space (record { answer = record { refusal = 0; row = 0; removed = removed; touched = n }; length = size }) left listed
+          → Explained t buffer x space (record { answer = record { refusal = 0; row = 0; removed = counts .removed; touched = n; compared = 0 }; length = size }) left listed
       explain-fits {space} {listed} {n} h put counted =
-          rw (put .written, list-is, counted .is, run .counted, run .result, size-is) (explained-fits can space (rw (← size-is) h))
+          rw (put .written, list-is, counted .is, run .removed, run .result, size-is) (explained-fits can space (rw (← size-is) h))

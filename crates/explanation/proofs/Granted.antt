@@ -1,5 +1,6 @@
 -- A question that passes 1 to 17: the space decides alone, and what is answered and left either way.
 use Prim.Native.Nat.{ℕ, _≤_, _<_}
+use native.Mathlib.Nat.{le-refl}
 use mathlib.Core.Path.{_≡_, ap, sym, _∙_}
 use mathlib.Core.Bool.{not}
 use mathlib.Core.List.{List, []}
@@ -8,19 +9,18 @@ use lib.Seq.{sets}
 use lib.Dec.{ltb, leb}
 use borrow.Author.Tests.{lt-ltb, le-ltb, lt-leb}
 use Rattle.basis.specs.Reason.{first}
-use Rattle.basis.proofs.Reasons.{append-skips, first-here, first-skips}
+use Rattle.basis.proofs.Reasons.{append-skips, append-first, first-here, first-skips}
 use Rattle.table.specs.declared.Verdict.{Verdict}
 use Rattle.table.specs.Refusals.{rows, refuse, accepted, given, checkRows, checkTable}
 use Rattle.table.proofs.Faulty.{given-passes}
 use Rattle.term.specs.Term.{isRead}
-use Rattle.term.specs.Result.{removedRows}
 use Rattle.term.specs.Bytes.{look}
 use Rattle.judge.specs.Verdict.{isAccepted}
-use Rattle.judge.specs.Run.{roomReasons, runVerdict}
+use Rattle.judge.specs.Run.{LIMIT, roomReasons, runReasons, runVerdict}
 use Rattle.judge.proofs.Verdicts.{is-accepted, given-number, given-after, rows-pass}
 use Rattle.judge.proofs.Granted.{room-numbered, grant-run}
-use Rattle.simplify.specs.Answer.{answer, answered}
-use Rattle.simplify.specs.Run.{freshRows, freshBytes}
+use Rattle.simplify.specs.Answer.{answer, ifAccepted, answered}
+use Rattle.simplify.specs.Run.{freshBytes, freshRemoved}
 use Rattle.explanation.specs.declared.Listing.{Listing}
 use Rattle.explanation.specs.Why.{listOf, rowReasons, readReasons, spaceReasons, whyVerdict, isMeasured}
 use Rattle.explanation.specs.Why.{listing, whyAnswer, whyResult, whyList, Explained}
@@ -29,10 +29,10 @@ use Rattle.explanation.specs.Ready.{Explainable}
 module _ {t buffer : List ℕ} {x : ℕ} (can : Explainable t buffer x) where
   -- 1 to 7, then 9 to 15 and 18, then 17 do not hold
   row-passes : first (rowReasons t buffer x) ≡ 0
-  unfolding rowReasons runVerdict first
+  unfolding rowReasons runReasons runVerdict first
   row-passes =
       append-skips (roomReasons t buffer) _ (room-numbered t buffer)
-      (given-number _ 0 (checkRows t accepted) (is-accepted _ (grant-run t buffer (can .table) (can .room)))) ∙
+      (append-first (roomReasons t buffer) _ (given-number _ 0 (checkRows t accepted) (is-accepted _ (grant-run t buffer LIMIT (can .table) (can .room) (le-refl LIMIT))))) ∙
       first-skips 7 (leb (rows t) x) [] (lt-leb (rows t) x (can .row))
 
   rows-pass-all : checkRows t accepted .number ≡ 0
@@ -65,7 +65,7 @@ module _ {t buffer : List ℕ} {x : ℕ} (can : Explainable t buffer x) where
 
     pub explained-short : {a : Listing} → length space < length (listOf t x) → a ≡ listing 22 0 0 0 (length (listOf t x)) →
         Explained t buffer x space a buffer space
-    unfolding whyAnswer whyResult whyList isMeasured listing answered isAccepted refuse
+    unfolding whyAnswer whyResult whyList isMeasured listing answered ifAccepted isAccepted refuse
     explained-short l is =
         let no : whyVerdict t buffer x space ≡ refuse 22 0 = verdict-short l in
         record { answer-is = is ∙ sym (rw no); result-is = sym (rw no); list-is = sym (rw no) }
@@ -73,11 +73,11 @@ module _ {t buffer : List ℕ} {x : ℕ} (can : Explainable t buffer x) where
     pub explained-fits : length (listOf t x) ≤ length space →
         Explained t buffer x space
         (record {
-          answer = record { refusal = 0; row = 0; removed = removedRows (look t) (freshRows t) (rows t); touched = rows t };
+          answer = record { refusal = 0; row = 0; removed = freshRemoved LIMIT t; touched = rows t; compared = 0 };
           length = length (listOf t x);
         })
-        (freshBytes t buffer) (sets space 0 (listOf t x))
-    unfolding whyAnswer whyResult whyList isMeasured answer answered isAccepted accepted refuse
+        (freshBytes LIMIT t buffer) (sets space 0 (listOf t x))
+    unfolding whyAnswer whyResult whyList isMeasured answer answered ifAccepted isAccepted accepted refuse
     explained-fits l =
         let yes : whyVerdict t buffer x space ≡ accepted = verdict-fits l in
         record { answer-is = sym (rw yes); result-is = sym (rw yes); list-is = sym (rw yes) }

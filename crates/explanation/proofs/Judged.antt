@@ -18,7 +18,7 @@ use Rattle.term.specs.Term.{isRead}
 use Rattle.term.specs.Bytes.{look}
 use Rattle.judge.specs.Run.{roomReasons}
 use Rattle.judge.proofs.Granted.{room-numbered}
-use Rattle.simplify.proofs.Turning.{read-told}
+use Rattle.renew.proofs.Turning.{read-told}
 use Rattle.explanation.specs.Why.{rowReasons, readReasons}
 use Rattle.explanation.specs.Ready.{There}
 

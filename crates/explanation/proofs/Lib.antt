@@ -1,7 +1,4 @@
--- Laws of the explanation: the lines of a walk, the list of a read, the answer to a question.
-pub mod Steps
-pub mod Lists
-pub mod Local
+-- Laws of the explanation: the answer to a question why.
 pub mod Restored
 pub mod Judged
 pub mod Refused

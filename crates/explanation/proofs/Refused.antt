@@ -20,7 +20,7 @@ use Rattle.judge.proofs.Verdicts.{given-number, rows-after, table-passes}
 use Rattle.judge.proofs.Granted.{Roomy, roomy, room-numbered}
 use Rattle.judge.proofs.Judged.{rows-refused}
 use Rattle.simplify.specs.declared.Answer.{Answer}
-use Rattle.simplify.specs.Answer.{answer, answered}
+use Rattle.simplify.specs.Answer.{answer, ifAccepted, answered}
 use Rattle.explanation.specs.declared.Listing.{Listing}
 use Rattle.explanation.specs.Why.{rowReasons, readReasons, spaceReasons, whyVerdict, isMeasured}
 use Rattle.explanation.specs.Why.{listing, whyAnswer, whyResult, whyList, Explained}
@@ -67,7 +67,7 @@ read-lower t x =
 module _ (t buffer : List ℕ) (x : ℕ) (space : List ℕ) where
   refused-by : {v : Verdict} {a : Listing} → whyVerdict t buffer x space ≡ v → (v .number ≡ 0 → ⊥) → v .number < 22 →
       a ≡ listing (v .number) (v .row) 0 0 0 → Explained t buffer x space a buffer space
-  unfolding whyAnswer whyResult whyList isMeasured listing answered isAccepted
+  unfolding whyAnswer whyResult whyList isMeasured listing answered ifAccepted isAccepted
   refused-by {v} e h l is =
       let no : eqb (v .number) 0 ≡ false = ne-eqb _ 0 h in
       let other : eqb (v .number) 22 ≡ false = ne-eqb _ 22 (λ (q : v .number ≡ 22). omega arith) in
@@ -128,7 +128,7 @@ module _ (t buffer : List ℕ) (x : ℕ) {number : ℕ} (told : number ≡ first
       }
 
 -- a refusal's answer
-pub listing-is : (number row length : ℕ) {a : Answer} → a ≡ answer number row 0 0
+pub listing-is : (number row length : ℕ) {a : Answer} → a ≡ answer number row 0 0 0
     → _≡_ {A = Listing} (record { answer = a; length = length }) (listing number row 0 0 length)
 unfolding listing
 listing-is number row length e = λ i. record { answer = e i; length = length }

@@ -13,6 +13,7 @@ use Rattle.basis.proofs.Sets.{sets-same, drop-sets, copied-there}
 use Rattle.table.specs.Refusals.{rows}
 use Rattle.table.specs.Accepted.{Accepted}
 use Rattle.term.proofs.Placed.{put-rows-behind}
+use Rattle.judge.specs.Run.{LIMIT}
 use Rattle.simplify.specs.Run.{freshRows, freshBytes}
 use Rattle.simplify.proofs.FreshRun.{fresh-length}
 
@@ -26,17 +27,17 @@ put-back n old new h h′ e =
     sets-same old 0 n
 
 module _ (t buffer : List ℕ) (ok : Accepted t) (room : length t ≤ length buffer) where
-  fresh-behind : drop (length t) (freshBytes t buffer) ≡ drop (length t) buffer
+  fresh-behind : drop (length t) (freshBytes LIMIT t buffer) ≡ drop (length t) buffer
   unfolding freshBytes
   fresh-behind =
       let size : length t ≡ place (rows t) = ok .head .size in
       let fits : HEADER ≤ length t = rw size (header-below (rows t)) in
-      put-rows-behind (λ x. true) (freshRows t) (sourceAt t) (rows t) (sets buffer 0 (take HEADER t)) (length t) (rw size (le-refl (place (rows t)))) ∙
+      put-rows-behind (λ x. true) (freshRows LIMIT t) (sourceAt t) (rows t) (sets buffer 0 (take HEADER t)) (length t) (rw size (le-refl (place (rows t)))) ∙
       drop-sets (length t) buffer 0 (take HEADER t) (rw (length-take-le HEADER t fits, zero-add) fits)
 
   -- saved before the run, and put back after it
   pub restored : (space saved : List ℕ) → length t ≤ length space → saved ≡ sets space 0 (take (length t) (drop 0 buffer))
-      → sets (freshBytes t buffer) 0 (take (length t) (drop 0 saved)) ≡ buffer
+      → sets (freshBytes LIMIT t buffer) 0 (take (length t) (drop 0 saved)) ≡ buffer
   restored space saved long e =
-      ap (sets (freshBytes t buffer) 0) (ap (take (length t)) e ∙ copied-there (length t) buffer space room long) ∙
-      put-back (length t) buffer (freshBytes t buffer) room (rw (fresh-length t buffer) room) fresh-behind
+      ap (sets (freshBytes LIMIT t buffer) 0) (ap (take (length t)) e ∙ copied-there (length t) buffer space room long) ∙
+      put-back (length t) buffer (freshBytes LIMIT t buffer) room (rw (fresh-length LIMIT t buffer) room) fresh-behind

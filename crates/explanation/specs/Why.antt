@@ -12,18 +12,17 @@ use Rattle.table.specs.declared.Verdict.{Verdict}
 use Rattle.table.specs.Refusals.{rows, given, checkRows, accepted}
 use Rattle.term.specs.Term.{rowOf, isRead}
 use Rattle.term.specs.Relation.{rangeOf}
-use Rattle.term.specs.Result.{removedRows}
 use Rattle.term.specs.Bytes.{look}
 use Rattle.judge.specs.Verdict.{isAccepted}
-use Rattle.judge.specs.Run.{roomReasons}
-use Rattle.simplify.specs.Answer.{LIMIT, modulus, answer, answered}
-use Rattle.simplify.specs.Run.{freshRows, freshBytes}
+use Rattle.judge.specs.Run.{LIMIT, roomReasons}
+use Rattle.simplify.specs.Answer.{modulus, answer, answered}
+use Rattle.simplify.specs.Run.{freshRows, freshBytes, freshRemoved}
 use Rattle.explanation.specs.declared.Listing.{Listing}
 use Rattle.listing.specs.List.{listFor}
 
 -- the list of row x of a table: the walk over its fresh result, with the instructions of the table's rows
 unfoldable pub listOf : List ℕ → ℕ → List ℕ
-listOf t x = listFor (modulus t) LIMIT (freshRows t) (rangeOf (modulus t) (freshRows t)) (sourceAt t) x (rowOf (freshRows t x)) (look t x)
+listOf t x = listFor (modulus t) LIMIT (freshRows LIMIT t) (rangeOf (modulus t) (freshRows LIMIT t)) (sourceAt t) x (rowOf (freshRows LIMIT t x)) (look t x)
 
 -- 1 to 7
 unfoldable pub rowReasons : List ℕ → List ℕ → ℕ → List Reason
@@ -50,17 +49,17 @@ unfoldable pub isMeasured : Verdict → Bool
 isMeasured v = isAccepted v || eqb (v .number) 22
 
 unfoldable pub listing : ℕ → ℕ → ℕ → ℕ → ℕ → Listing
-listing refusal row removed touched long = record { answer = answer refusal row removed touched; length = long }
+listing refusal row removed touched long = record { answer = answer refusal row removed touched 0; length = long }
 
--- the four numbers of a fresh run, and the list's length
+-- the numbers of a fresh run, in which no comparison is counted, and the list's length
 unfoldable pub whyAnswer : List ℕ → List ℕ → ℕ → List ℕ → Listing
 whyAnswer t buffer x space = record {
-  answer = answered (whyVerdict t buffer x space) (removedRows (look t) (freshRows t) (rows t)) (rows t);
+  answer = answered (whyVerdict t buffer x space) (freshRemoved LIMIT t) (rows t) 0;
   length = cond (isMeasured (whyVerdict t buffer x space)) (length (listOf t x)) 0;
 }
 
 unfoldable pub whyResult : List ℕ → List ℕ → ℕ → List ℕ → List ℕ
-whyResult t buffer x space = cond (isAccepted (whyVerdict t buffer x space)) (freshBytes t buffer) buffer
+whyResult t buffer x space = cond (isAccepted (whyVerdict t buffer x space)) (freshBytes LIMIT t buffer) buffer
 
 unfoldable pub whyList : List ℕ → List ℕ → ℕ → List ℕ → List ℕ
 whyList t buffer x space = cond (isAccepted (whyVerdict t buffer x space)) (sets space 0 (listOf t x)) space

@@ -3,9 +3,9 @@ ghost use mathlib.Core.Path.{_≡_};
 ghost use Rattle.explanation.specs.Why.{listing, Explained};
 ghost use Rattle.explanation.specs.Ready.{Explainable};
 use super::judging;
-use super::walking::put_list;
 use crate::Listing;
 use simplify::Answer;
+use tracing::put_list;
 
 // The answer of a refusal, with the length of the list where it is known.
 fn not_listed(number: u64, row: u64, length: u64) -> Listing
@@ -23,13 +23,13 @@ fn explain(table: &[u8], result: &mut [u8], r: usize, list: &mut [u8]) -> Listin
     ensures { λ answer. ⌜ Explained (now (table .entry)) (now (result .entry)) r (now (list .entry)) answer (now (result .exit)) (now (list .exit)) ⌝ }
 {
     let mut saved = [0u8; table::LARGEST];
-    simplify::copy(result, 0, table.len(), &mut saved, 0);
+    copying::copy(result, 0, table.len(), &mut saved, 0);
     let mut store = [0u64; 2048];
-    let removed = simplify::fresh(table, result, &mut store);
+    let counts = simplify::fresh(table, result, &mut store, judge::LIMIT);
     let mut none = [0u8; 1];
     let length = put_list(&mut none, table, result, &store, r);
     if list.len() < length {
-        simplify::copy(&saved, 0, table.len(), result, 0);
+        copying::copy(&saved, 0, table.len(), result, 0);
         return not_listed(22, 0, length as u64);
     }
     put_list(list, table, result, &store, r);
@@ -37,8 +37,9 @@ fn explain(table: &[u8], result: &mut [u8], r: usize, list: &mut [u8]) -> Listin
         answer: Answer {
             refusal: 0,
             row: 0,
-            removed: removed,
+            removed: counts.removed,
             touched: table::rows_of(table) as u64,
+            compared: 0,
         },
         length: length as u64,
     }

@@ -1,7 +1,6 @@
 // Why a read moved: the list of its walk, as a person reads it.
 mod explaining;
 mod judging;
-mod walking;
 
 pub use explaining::why;
 use simplify::Answer;

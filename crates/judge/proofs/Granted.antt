@@ -1,4 +1,4 @@
--- What a run that is accepted has, an edit that is refused for none of 1 to 8, and a question that is accepted: the reasons, one by one, do not hold.
+-- What a run that is accepted has, an edit that is refused for none of 1 to 8 and 19, and a question that is accepted: the reasons, one by one, do not hold.
 use Prim.Native.Nat.{ℕ, _≤_, _<_}
 use mathlib.Core.Path.{_≡_, refl, ap, _∙_}
 use mathlib.Core.Bool.{true, false, not, _||_}
@@ -16,7 +16,7 @@ use Rattle.table.proofs.Faulty.{given-passes}
 use Rattle.term.specs.Term.{isArray}
 use Rattle.term.specs.Bytes.{look}
 use Rattle.judge.specs.Verdict.{isAccepted}
-use Rattle.judge.specs.Run.{roomReasons, runVerdict}
+use Rattle.judge.specs.Run.{LIMIT, roomReasons, limitReasons, runReasons, runVerdict}
 use Rattle.judge.specs.Kept.{keptPart, keptWrong, keptVerdict}
 use Rattle.judge.specs.Edit.{editReasons}
 use Rattle.judge.specs.Ask.{pairReasons, arrayReasons, arrayVerdict}
@@ -40,36 +40,55 @@ pub room-numbered : (t buffer : List ℕ) → numbered (roomReasons t buffer) �
 unfolding roomReasons headReasons
 room-numbered t buffer = refl
 
-pub record RunGranted (t buffer : List ℕ) : Type 0 where
-  pub verdict : runVerdict t buffer ≡ accepted
+-- 1 to 6 and 19 of a run do not hold
+pub record RunReady (t buffer : List ℕ) (limit : ℕ) : Type 0 where
   pub roomy : Roomy t buffer
-  pub table : checkTable t ≡ accepted
+  pub few : limit ≤ LIMIT
 
-pub run-granted : (t buffer : List ℕ) → isAccepted (runVerdict t buffer) ≡ true → RunGranted t buffer
-unfolding runVerdict
-run-granted t buffer e =
-    let z : given (first (roomReasons t buffer)) 0 (checkRows t accepted) .number ≡ 0 = is-accepted _ e in
-    let ready : Roomy t buffer = roomy t buffer (given-number _ 0 (checkRows t accepted) z) in
+pub run-ready : (t buffer : List ℕ) (limit : ℕ) → first (runReasons t buffer limit) ≡ 0 → RunReady t buffer limit
+unfolding runReasons limitReasons
+run-ready t buffer limit zero-first =
     record {
-      verdict = given-passes _ 0 (checkRows t accepted) (given-number _ 0 (checkRows t accepted) z) ∙ rows-pass t accepted accepted (given-after _ 0 (checkRows t accepted) z);
-      roomy = ready;
-      table = table-passes t accepted (ready .head) (given-after _ 0 (checkRows t accepted) z);
+      roomy = roomy t buffer (append-first (roomReasons t buffer) _ zero-first);
+      few = ltb-false LIMIT limit (first-none (19 when ltb LIMIT limit ∷ []) refl (append-second (roomReasons t buffer) _ (room-numbered t buffer) zero-first) .0);
     }
 
--- 1 to 8 of an edit do not hold
-pub record EditReady (t kept : List ℕ) (r : ℕ) (x : List ℕ) : Type 0 where
+pub record RunGranted (t buffer : List ℕ) (limit : ℕ) : Type 0 where
+  pub verdict : runVerdict t buffer limit ≡ accepted
+  pub roomy : Roomy t buffer
+  pub few : limit ≤ LIMIT
+  pub table : checkTable t ≡ accepted
+
+pub run-granted : (t buffer : List ℕ) (limit : ℕ) → isAccepted (runVerdict t buffer limit) ≡ true → RunGranted t buffer limit
+unfolding runVerdict
+run-granted t buffer limit e =
+    let z : given (first (runReasons t buffer limit)) 0 (checkRows t accepted) .number ≡ 0 = is-accepted _ e in
+    let ready : RunReady t buffer limit = run-ready t buffer limit (given-number _ 0 (checkRows t accepted) z) in
+    record {
+      verdict = given-passes _ 0 (checkRows t accepted) (given-number _ 0 (checkRows t accepted) z) ∙ rows-pass t accepted accepted (given-after _ 0 (checkRows t accepted) z);
+      roomy = ready .roomy;
+      few = ready .few;
+      table = table-passes t accepted (ready .roomy .head) (given-after _ 0 (checkRows t accepted) z);
+    }
+
+-- 1 to 8 and 19 of an edit do not hold
+pub record EditReady (t kept : List ℕ) (r : ℕ) (x : List ℕ) (limit : ℕ) : Type 0 where
   pub roomy : Roomy t kept
   pub row : r < rows t
   pub long : length x ≡ LENGTH
+  pub few : limit ≤ LIMIT
 
-pub edit-ready : (t kept : List ℕ) (r : ℕ) (x : List ℕ) → first (editReasons t kept r x) ≡ 0 → EditReady t kept r x
-unfolding editReasons
-edit-ready t kept r x zero-first =
-    let both = first-none (7 when leb (rows t) r ∷ 8 when not (eqb (length x) LENGTH) ∷ []) refl (append-second (roomReasons t kept) _ (room-numbered t kept) zero-first) in
+pub edit-ready : (t kept : List ℕ) (r : ℕ) (x : List ℕ) (limit : ℕ) → first (editReasons t kept r x limit) ≡ 0 → EditReady t kept r x limit
+unfolding editReasons limitReasons
+edit-ready t kept r x limit zero-first =
+    let three =
+    first-none (7 when leb (rows t) r ∷ 8 when not (eqb (length x) LENGTH) ∷ 19 when ltb LIMIT limit ∷ []) refl
+    (append-second (roomReasons t kept) _ (room-numbered t kept) zero-first) in
     record {
       roomy = roomy t kept (append-first (roomReasons t kept) _ zero-first);
-      row = leb-false (rows t) r (both .0);
-      long = eqb-true (length x) LENGTH (not-false (eqb (length x) LENGTH) (both .1 .0));
+      row = leb-false (rows t) r (three .0);
+      long = eqb-true (length x) LENGTH (not-false (eqb (length x) LENGTH) (three .1 .0));
+      few = ltb-false LIMIT limit (three .1 .1 .0);
     }
 
 -- 1 to 7 of a question do not hold
@@ -132,12 +151,14 @@ module _ (t kept : List ℕ) (x y : ℕ) where
         rows-pass t _ _ z ∙ given-passes _ 0 _ sixteen ∙ given-passes _ x _ x-word ∙ given-passes _ y accepted y-word
 
 -- and the other way round: an accepted table with room is granted a run
-pub grant-run : (t buffer : List ℕ) → checkTable t ≡ accepted → length t ≤ length buffer → isAccepted (runVerdict t buffer) ≡ true
-unfolding runVerdict roomReasons checkTable accepted refuse first
-grant-run t buffer passes room =
+pub grant-run : (t buffer : List ℕ) (limit : ℕ) → checkTable t ≡ accepted → length t ≤ length buffer → limit ≤ LIMIT → isAccepted (runVerdict t buffer limit) ≡ true
+unfolding runVerdict runReasons roomReasons limitReasons checkTable accepted refuse first
+grant-run t buffer limit passes room few =
     let z : checkTable t .number ≡ 0 = ap (λ (v : Verdict). v .number) passes in
     let head : first (headReasons t) ≡ 0 = given-number _ 0 (checkRows t accepted) z in
     let roomy : first (roomReasons t buffer) ≡ 0 =
     append-skips (headReasons t) _ (head-numbered t) head ∙ first-skips 6 (ltb (length buffer) (length t)) [] (le-ltb (length buffer) (length t) room) in
+    let ready : first (runReasons t buffer limit) ≡ 0 =
+    append-skips (roomReasons t buffer) _ (room-numbered t buffer) roomy ∙ first-skips 19 (ltb LIMIT limit) [] (le-ltb LIMIT limit few) in
     accepted-is _
-    (ap (λ (v : Verdict). v .number) (given-passes (first (roomReasons t buffer)) 0 (checkRows t accepted) roomy) ∙ given-after _ 0 (checkRows t accepted) z)
+    (ap (λ (v : Verdict). v .number) (given-passes (first (runReasons t buffer limit)) 0 (checkRows t accepted) ready) ∙ given-after _ 0 (checkRows t accepted) z)

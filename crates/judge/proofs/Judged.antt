@@ -22,14 +22,14 @@ use Rattle.row.proofs.Places.{room-in}
 use Rattle.term.specs.Term.{isArray}
 use Rattle.term.specs.Bytes.{look}
 use Rattle.term.proofs.Rows.{sort-term}
-use Rattle.judge.specs.Run.{roomReasons, runVerdict}
+use Rattle.judge.specs.Run.{LIMIT, roomReasons, limitReasons, runReasons, runVerdict}
 use Rattle.judge.specs.Kept.{keptWrong, keptVerdict}
 use Rattle.judge.specs.Edit.{editReasons}
 use Rattle.judge.specs.Ask.{pairReasons, arrayReasons, arrayVerdict}
 use Rattle.judge.specs.Judge.{Holding, KeptThere, PairThere}
 use Rattle.judge.proofs.Verdicts.{rows-pass, rows-after, head-numbered}
 use Rattle.judge.proofs.Right.{kept-stops, kept-goes}
-use Rattle.judge.proofs.Granted.{room-numbered, roomy}
+use Rattle.judge.proofs.Granted.{room-numbered, roomy, run-ready}
 
 -- a number that is not 0 is the first of any longer list too
 later : (xs ys : List Reason) {number : ℕ} → number ≡ first xs → (number ≡ 0 → ⊥) → number ≡ first (xs ++ ys)
@@ -53,45 +53,63 @@ module _ (t buffer : List ℕ) {number : ℕ} where
   unfolding roomReasons first
   room-enough e z l = onward (headReasons t) _ (head-numbered t) e z (first-skips 6 _ [] (le-ltb (length buffer) (length t) l))
 
+-- 19
+pub limit-high : (limit : ℕ) → LIMIT < limit → 19 ≡ first (limitReasons limit)
+unfolding limitReasons
+limit-high limit l = sym (first-here 19 _ [] (lt-ltb LIMIT limit l))
+
+pub limit-fine : (limit : ℕ) → limit ≤ LIMIT → 0 ≡ first (limitReasons limit)
+unfolding limitReasons first
+limit-fine limit l = sym (first-skips 19 _ [] (le-ltb LIMIT limit l))
+
 -- a run
-module _ (t buffer : List ℕ) {number : ℕ} where
-  pub run-refused : number ≡ first (roomReasons t buffer) → (number ≡ 0 → ⊥) → _≡_ {A = Verdict} (record { number = number; row = 0 }) (runVerdict t buffer)
+module _ (t buffer : List ℕ) (limit : ℕ) {number : ℕ} where
+  pub run-room : number ≡ first (roomReasons t buffer) → (number ≡ 0 → ⊥) → number ≡ first (runReasons t buffer limit)
+  unfolding runReasons
+  run-room e h = later (roomReasons t buffer) _ e h
+
+  pub run-limited : number ≡ first (roomReasons t buffer) → number ≡ 0 → {n : ℕ} → n ≡ first (limitReasons limit) → n ≡ first (runReasons t buffer limit)
+  unfolding runReasons
+  run-limited e z f = onward (roomReasons t buffer) _ (room-numbered t buffer) e z (sym f)
+
+  pub run-refused : number ≡ first (runReasons t buffer limit) → (number ≡ 0 → ⊥) → _≡_ {A = Verdict} (record { number = number; row = 0 }) (runVerdict t buffer limit)
   unfolding runVerdict refuse
-  run-refused e h = ap (λ (n : ℕ). refuse n 0) e ∙ sym (given-refuses (first (roomReasons t buffer)) 0 (checkRows t accepted) (λ z. h (e ∙ z)))
+  run-refused e h = ap (λ (n : ℕ). refuse n 0) e ∙ sym (given-refuses (first (runReasons t buffer limit)) 0 (checkRows t accepted) (λ z. h (e ∙ z)))
 
-  pub head-passes : number ≡ first (roomReasons t buffer) → number ≡ 0 → first (headReasons t) ≡ 0
-  head-passes e z = roomy t buffer (sym e ∙ z) .head
+  pub head-passes : number ≡ first (runReasons t buffer limit) → number ≡ 0 → first (headReasons t) ≡ 0
+  head-passes e z = run-ready t buffer limit (sym e ∙ z) .roomy .head
 
-  pub run-judged : {v : Verdict} → number ≡ first (roomReasons t buffer) → number ≡ 0 → v ≡ checkRows t accepted → v ≡ runVerdict t buffer
+  pub run-judged : {v : Verdict} → number ≡ first (runReasons t buffer limit) → number ≡ 0 → v ≡ checkRows t accepted → v ≡ runVerdict t buffer limit
   unfolding runVerdict
-  run-judged e z f = f ∙ sym (given-passes (first (roomReasons t buffer)) 0 (checkRows t accepted) (sym e ∙ z))
+  run-judged e z f = f ∙ sym (given-passes (first (runReasons t buffer limit)) 0 (checkRows t accepted) (sym e ∙ z))
 
 -- a table whose head passes has a header
 pub header-there : (t buffer : List ℕ) {number : ℕ} → number ≡ first (roomReasons t buffer) → number ≡ 0 → HEADER ≤ length t
-header-there t buffer e z = long-head t (head-passes t buffer e z)
+header-there t buffer e z = long-head t (roomy t buffer (sym e ∙ z) .head)
 
--- 7 and 8 of an edit
-module _ (t kept : List ℕ) (r : ℕ) (new : List ℕ) {number : ℕ} where
-  pub edit-room : number ≡ first (roomReasons t kept) → (number ≡ 0 → ⊥) → number ≡ first (editReasons t kept r new)
+-- 7, 8 and 19 of an edit
+module _ (t kept : List ℕ) (r : ℕ) (new : List ℕ) (limit : ℕ) {number : ℕ} where
+  pub edit-room : number ≡ first (roomReasons t kept) → (number ≡ 0 → ⊥) → number ≡ first (editReasons t kept r new limit)
   unfolding editReasons
   edit-room e h = later (roomReasons t kept) _ e h
 
-  pub edit-row : number ≡ first (roomReasons t kept) → number ≡ 0 → {n : ℕ} → n ≡ rows t → n ≤ r → 7 ≡ first (editReasons t kept r new)
+  pub edit-row : number ≡ first (roomReasons t kept) → number ≡ 0 → {n : ℕ} → n ≡ rows t → n ≤ r → 7 ≡ first (editReasons t kept r new limit)
   unfolding editReasons
   edit-row e z is l = onward (roomReasons t kept) _ (room-numbered t kept) e z (first-here 7 _ _ (le-leb (rows t) r (rw is at l)))
 
-  pub edit-long : number ≡ first (roomReasons t kept) → number ≡ 0 → {n : ℕ} → n ≡ rows t → r < n → (length new ≡ LENGTH → ⊥) → 8 ≡ first (editReasons t kept r new)
+  pub edit-long : number ≡ first (roomReasons t kept) → number ≡ 0 → {n : ℕ} → n ≡ rows t → r < n → (length new ≡ LENGTH → ⊥) → 8 ≡ first (editReasons t kept r new limit)
   unfolding editReasons
   edit-long e z is l h =
       onward (roomReasons t kept) _ (room-numbered t kept) e z
-      (first-skips 7 _ _ (lt-leb (rows t) r (rw is at l)) ∙ first-here 8 _ [] (ap not (ne-eqb (length new) LENGTH h)))
+      (first-skips 7 _ _ (lt-leb (rows t) r (rw is at l)) ∙ first-here 8 _ _ (ap not (ne-eqb (length new) LENGTH h)))
 
-  pub edit-fine : number ≡ first (roomReasons t kept) → number ≡ 0 → {n : ℕ} → n ≡ rows t → r < n → length new ≡ LENGTH → 0 ≡ first (editReasons t kept r new)
-  unfolding editReasons first
-  edit-fine e z is l h =
+  pub edit-limited : number ≡ first (roomReasons t kept) → number ≡ 0 → {n : ℕ} → n ≡ rows t → r < n → length new ≡ LENGTH →
+      {m : ℕ} → m ≡ first (limitReasons limit) → m ≡ first (editReasons t kept r new limit)
+  unfolding editReasons
+  edit-limited e z is l h f =
       onward (roomReasons t kept) _ (room-numbered t kept) e z
-      (first-skips 7 (leb (rows t) r) (8 when not (eqb (length new) LENGTH) ∷ []) (lt-leb (rows t) r (rw is at l)) ∙
-      first-skips 8 (not (eqb (length new) LENGTH)) [] (ap not (eq-eqb (length new) LENGTH h)))
+      (first-skips 7 (leb (rows t) r) (8 when not (eqb (length new) LENGTH) ∷ limitReasons limit) (lt-leb (rows t) r (rw is at l)) ∙
+      first-skips 8 (not (eqb (length new) LENGTH)) (limitReasons limit) (ap not (eq-eqb (length new) LENGTH h)) ∙ sym f)
 
 -- 7 of a question
 module _ (t buffer : List ℕ) (x y : ℕ) {number : ℕ} where

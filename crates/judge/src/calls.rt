@@ -1,7 +1,7 @@
 // What a run, an edit and a question about two rows are refused for.
 ghost use mathlib.Core.Path.{_≡_};
 ghost use Rattle.basis.specs.Reason.{first};
-ghost use Rattle.judge.specs.Run.{roomReasons, runVerdict};
+ghost use Rattle.judge.specs.Run.{roomReasons, limitReasons, runReasons, runVerdict};
 ghost use Rattle.judge.specs.Kept.{keptPart, keptVerdict};
 ghost use Rattle.judge.specs.Edit.{editReasons};
 ghost use Rattle.judge.specs.Ask.{pairReasons, arrayVerdict};
@@ -27,11 +27,35 @@ pub fn room(t: &[u8], buffer: &[u8]) -> u64
     0
 }
 
-// A fresh run: 1 to 6, then 9 to 15 and 18.
-pub fn run(t: &[u8], buffer: &[u8]) -> Verdict
-    ensures { λ v. ⌜ v ≡ runVerdict (now (t .entry)) (now (buffer .entry)) ⌝ }
+// the stores that a READ compares at most, where a caller asks for no lower number
+pub const LIMIT: usize = 1024;
+
+// 19.
+fn limited(limit: u64) -> u64
+    ensures { λ n. ⌜ n ≡ first (limitReasons limit) ⌝ }
+{
+    if limit > LIMIT as u64 {
+        return 19;
+    }
+    0
+}
+
+// 1 to 6 and 19 of a fresh run.
+fn before_rows(t: &[u8], buffer: &[u8], limit: u64) -> u64
+    ensures { λ n. ⌜ n ≡ first (runReasons (now (t .entry)) (now (buffer .entry)) limit) ⌝ }
 {
     let number = room(t, buffer);
+    if number != 0 {
+        return number;
+    }
+    limited(limit)
+}
+
+// A fresh run: 1 to 6 and 19, then 9 to 15 and 18.
+pub fn run(t: &[u8], buffer: &[u8], limit: u64) -> Verdict
+    ensures { λ v. ⌜ v ≡ runVerdict (now (t .entry)) (now (buffer .entry)) limit ⌝ }
+{
+    let number = before_rows(t, buffer, limit);
     if number != 0 {
         return Verdict {
             number: number,
@@ -41,9 +65,9 @@ pub fn run(t: &[u8], buffer: &[u8]) -> Verdict
     scan::check_rows(t)
 }
 
-// 1 to 8 of an edit.
-pub fn edit(t: &[u8], kept: &[u8], r: u64, replacement: &[u8]) -> u64
-    ensures { λ n. ⌜ n ≡ first (editReasons (now (t .entry)) (now (kept .entry)) r (now (replacement .entry))) ⌝ }
+// 1 to 8 and 19 of an edit.
+pub fn edit(t: &[u8], kept: &[u8], r: u64, replacement: &[u8], limit: u64) -> u64
+    ensures { λ n. ⌜ n ≡ first (editReasons (now (t .entry)) (now (kept .entry)) r (now (replacement .entry)) limit) ⌝ }
 {
     let number = room(t, kept);
     if number != 0 {
@@ -56,7 +80,7 @@ pub fn edit(t: &[u8], kept: &[u8], r: u64, replacement: &[u8]) -> u64
     if replacement.len() != Row::LENGTH {
         return 8;
     }
-    0
+    limited(limit)
 }
 
 // 1 to 7 of a question.

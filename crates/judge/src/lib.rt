@@ -2,6 +2,7 @@
 mod calls;
 mod kept;
 
+pub use calls::LIMIT;
 pub use calls::edit;
 pub use calls::pair;
 pub use calls::room;

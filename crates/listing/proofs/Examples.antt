@@ -11,7 +11,8 @@ use Rattle.term.specs.declared.Reason.the-variants.{Offsets, Separate, Undecide
 use Rattle.term.specs.Term.{read, rowOf}
 use Rattle.text.specs.Text.{ascii, digits, decimal, spaced}
 use Rattle.lines.specs.Lines.{line}
-use Rattle.listing.specs.List.{pieceText, piecesText, rangeText, offsetsText, reasonText, accessText, readLine, storeLine, storeLines, standsLine, resultLine}
+use Rattle.reasons.specs.Reasons.{pieceText, piecesText, rangeText, offsetsText, reasonText}
+use Rattle.listing.specs.List.{accessText, readLine, storeLine, storeLines, standsLine, resultLine}
 
 first-line : readLine 12 8 4 7 ≡ ascii "instruction 12: read 8, array 4, index 7\n"
 unfolding digits decimal accessText readLine

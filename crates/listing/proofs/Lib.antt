@@ -1,5 +1,4 @@
 -- Laws of the list.
-pub mod Largest
 pub mod Short
 pub mod Written
 pub mod Examples

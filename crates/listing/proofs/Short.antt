@@ -1,18 +1,15 @@
 -- How long a list is: at most 256 bytes for each store compared, and 256 more.
-use Prim.Native.Nat.{ℕ, suc, _+_, _-_, _*_, _^_, _≤_, _<_}
+use Prim.Native.Nat.{ℕ, suc, _+_, _*_, _^_, _≤_, _<_}
 use native.Mathlib.Omega.{arith}
 use mathlib.Core.Path.{_≡_, subst}
 use mathlib.Core.List.{List, [], _∷_}
 use lib.ListN.{length, length-append}
-use Rattle.basis.proofs.Pick.{pick-case}
 use Rattle.range.specs.declared.Range.{Range}
-use Rattle.pieces.specs.Pieces.{Piece, piece}
-use Rattle.range.specs.Range.{isTwo, pieces}
 use Rattle.row.specs.Names.{CONST, VAR, SHIFT, SUM, DIFF, NEG, READ, FRESH, WRITE}
 use Rattle.row.specs.Bytes.{row}
 use Rattle.table.specs.Refusals.{MOST}
 use Rattle.term.specs.declared.Reason.{Reason}
-use Rattle.term.specs.declared.Reason.the-variants.{SamePlace, Offsets, Separate, Undecided}
+use Rattle.term.specs.declared.Reason.the-variants.{SamePlace, Undecided}
 use Rattle.term.specs.declared.Met.{Met}
 use Rattle.term.specs.Term.{Term, const, var, shift, sum, diff, neg, read, fresh, write, rowOf}
 use Rattle.term.specs.Walk.{Walk, found, passed, undecided, ended}
@@ -22,27 +19,9 @@ use Rattle.term.proofs.Follows.{Follows, finds, passes, stops, ends, spent, Eac
 use Rattle.text.specs.Text.{decimal, spaced}
 use Rattle.text.proofs.Decimal.{decimal-one, decimal-few, decimal-within}
 use Rattle.lines.specs.Lines.{line}
-use Rattle.listing.specs.List.{pieceText, piecesText, rangeText, offsetsText, reasonText, accessText, readLine, storeLine, storeLines, foundLine, standsLine}
-use Rattle.listing.specs.List.{endLine, resultLine, walkLines, list, most}
+use Rattle.reasons.proofs.Short.{reason-short}
+use Rattle.listing.specs.List.{accessText, readLine, storeLine, storeLines, foundLine, standsLine, endLine, resultLine, walkLines, list, most}
 use Rattle.listing.specs.Ready.{Numbered}
-
-piece-short : (p : Piece) → length (pieceText p) ≤ 42
-unfolding pieceText
-piece-short p = simp length-append (omega (arith, decimal-few (p .lo), decimal-few (p .hi)))
-
-range-short : (M : ℕ) (a : Range) → length (rangeText M a) ≤ 86
-unfolding rangeText piecesText pieces
-range-short M a =
-    pick-case (λ (ps : List Piece). length (piecesText ps) ≤ 86) (isTwo a)
-    (λ _. simp length-append (omega (arith, piece-short (piece 0 (a .hi)), piece-short (piece (a .lo) (M - 1)))))
-    (λ _. omega (arith, piece-short (piece (a .lo) (a .hi))))
-
-reason-short : (M : ℕ) (why : Reason) → length (reasonText M why) ≤ 194
-unfolding reasonText offsetsText
-reason-short M SamePlace = omega arith
-reason-short M (Offsets p q) = simp length-append (omega (arith, decimal-few p, decimal-few q))
-reason-short M (Separate spans) = simp length-append (omega (arith, range-short M (spans .store), range-short M (spans .read)))
-reason-short M Undecided = omega arith
 
 pub store-short : (M source i : ℕ) (s : Met) → Numbered source i s → length (storeLine M source i s) ≤ 256
 unfolding storeLine accessText

@@ -2,39 +2,14 @@
 use Prim.Native.Nat.{ℕ, _+_, _*_}
 use mathlib.Core.List.{List, [], _∷_, _++_}
 use Rattle.range.specs.declared.Range.{Range}
-use Rattle.pieces.specs.Pieces.{Piece}
-use Rattle.range.specs.Range.{pieces}
 use Rattle.row.specs.declared.Row.{Row}
 use Rattle.lines.specs.Lines.{line}
-use Rattle.term.specs.declared.Reason.{Reason}
-use Rattle.term.specs.declared.Reason.the-variants.{SamePlace, Offsets, Separate, Undecided}
 use Rattle.term.specs.declared.Met.{Met}
 use Rattle.term.specs.Term.{Term, const, var, shift, sum, diff, neg, read, fresh, write}
 use Rattle.term.specs.Walk.{Walk, found, passed, undecided, ended, walk}
 use Rattle.term.specs.Reason.{met}
 use Rattle.text.specs.Text.{ascii, decimal}
-
--- a piece, by its two ends
-unfoldable pub pieceText : Piece → List ℕ
-pieceText p = decimal (p .lo) ++ ascii ".." ++ decimal (p .hi)
-
-unfoldable pub piecesText : List Piece → List ℕ
-piecesText [] = []
-piecesText (p ∷ []) = pieceText p
-piecesText (p ∷ q ∷ ps) = pieceText p ++ ascii ", " ++ piecesText (q ∷ ps)
-
--- a range, its lower piece first: the one place where a range is written
-unfoldable pub rangeText : ℕ → Range → List ℕ
-rangeText M a = piecesText (pieces M a)
-
-unfoldable pub offsetsText : ℕ → ℕ → List ℕ
-offsetsText p q = ascii "different offsets on a shared base, " ++ decimal p ++ ascii " and " ++ decimal q
-
-unfoldable pub reasonText : ℕ → Reason → List ℕ
-reasonText M SamePlace = ascii "same place"
-reasonText M (Offsets p q) = offsetsText p q
-reasonText M (Separate spans) = ascii "separate ranges, " ++ rangeText M (spans .store) ++ ascii " and " ++ rangeText M (spans .read)
-reasonText M Undecided = ascii "undecided"
+use Rattle.reasons.specs.Reasons.{reasonText}
 
 -- how the line of a load or a store begins: its instruction, where an engineer looks first, and its row
 unfoldable pub accessText : ℕ → List ℕ → ℕ → List ℕ

@@ -2,10 +2,7 @@
 mod words;
 
 pub use words::put_found;
-pub use words::put_labelled;
 pub use words::put_read;
 pub use words::put_result;
 pub use words::put_stands;
 pub use words::put_store;
-pub use words::put_why;
-pub use words::top_of;

@@ -1,3 +1,2 @@
 -- What the contracts of this crate say.
 pub mod Marks
-pub mod Touched

@@ -42,11 +42,11 @@ use Rattle.judge.proofs.Granted.{WordsGranted, pair-ready, words-granted, words
 use Rattle.judge.proofs.Right.{right-sorts, right-formed}
 use Rattle.simplify.specs.declared.Answer.{Answer}
 use Rattle.simplify.specs.Answer.{modulus, answer}
+use Rattle.needed.specs.Needed.{Word, TwoWords, Blank, TwoKept}
 use Rattle.question.specs.declared.Comparison.{Comparison}
 use Rattle.question.specs.Ask.{askVerdict, keptRows, askReason, compared, askAnswer}
-use Rattle.question.specs.Needed.{Word, TwoWords, Blank, TwoKept}
 
-pub compared-is : (number row : ℕ) (why : Reason) {a : Answer} → a ≡ answer number row 0 0 → _≡_ {A = Comparison} (record { answer = a; why = why }) (compared number row why)
+pub compared-is : (number row : ℕ) (why : Reason) {a : Answer} → a ≡ answer number row 0 0 0 → _≡_ {A = Comparison} (record { answer = a; why = why }) (compared number row why)
 unfolding compared
 compared-is number row why e = λ i. record { answer = e i; why = why }
 

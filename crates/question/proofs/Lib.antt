@@ -1,5 +1,3 @@
--- Laws of a question: the rows that ranges are made from, their ranges, and the ways out.
-pub mod Marking
-pub mod Keeping
+-- Laws of a question: the ways out, and what is told.
 pub mod Answered
 pub mod Told

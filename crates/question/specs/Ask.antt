@@ -37,9 +37,9 @@ unfoldable pub askReason : List ℕ → List ℕ → ℕ → ℕ → Reason
 askReason t kept x y =
     cond (isAccepted (askVerdict t kept x y)) (reason (keptRows t kept) (rangeOf (modulus t) (keptRows t kept)) x y) Undecided
 
--- a comparison that makes no run: removed and touched are 0
+-- a comparison that makes no run: removed, touched and compared are 0
 unfoldable pub compared : ℕ → ℕ → Reason → Comparison
-compared number row why = record { answer = answer number row 0 0; why = why }
+compared number row why = record { answer = answer number row 0 0 0; why = why }
 
 -- the promise is that this is answered. Both buffers are only read
 unfoldable pub askAnswer : List ℕ → List ℕ → ℕ → ℕ → Comparison

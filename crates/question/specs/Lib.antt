@@ -1,3 +1,2 @@
--- What a question about two rows answers, for every input, and what the parts of it ask and leave.
+-- What a question about two rows answers, for every input.
 pub mod Ask
-pub mod Needed

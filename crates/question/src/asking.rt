@@ -6,10 +6,10 @@ ghost use Rattle.term.specs.Bytes.{look};
 ghost use Rattle.term.specs.Relation.{rangeOf};
 ghost use Rattle.term.specs.Reason.{reason};
 ghost use Rattle.walks.specs.Ready.{Reached};
+ghost use Rattle.needed.specs.Needed.{TwoWords};
 ghost use Rattle.question.specs.Ask.{compared, askAnswer};
-ghost use Rattle.question.specs.Needed.{TwoWords};
-use super::ranges::keep_two;
 use crate::Comparison;
+use needed::keep_two;
 use term::Reason;
 
 fn compared(number: u64, row: u64, why: Reason) -> Comparison

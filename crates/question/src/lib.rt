@@ -1,7 +1,5 @@
 // A question about two rows of a kept result: whether they are the same, apart, or neither is known, and why. It makes no run.
 mod asking;
-mod needed;
-mod ranges;
 
 pub use asking::ask;
 use simplify::Answer;

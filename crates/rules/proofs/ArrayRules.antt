@@ -1,6 +1,6 @@
 -- The rules for arrays, at each way out of the code. Assumes nothing.
 use Prim.Native.Nat.{ℕ}
-use mathlib.Core.Path.{_≡_, refl, sym, _∙_}
+use mathlib.Core.Path.{_≡_, refl, sym, ap, _∙_}
 use mathlib.Core.List.{List}
 use Rattle.range.specs.declared.Range.{Range}
 use Rattle.range.specs.Store.{kept}
@@ -14,16 +14,20 @@ use Rattle.term.specs.declared.Relation.{Relation}
 use Rattle.term.specs.declared.Relation.the-variants.{Same, Apart, Unknown}
 use Rattle.term.specs.Relation.{related}
 use Rattle.term.specs.Walk.{Walk, found, passed, undecided, ended, walk}
-use Rattle.term.specs.Rule.{shiftRule, readBy, readRule, skipBy, skipAt, writeRule}
+use Rattle.term.specs.Rule.{shiftRule, readBy, readRule, skipBy, skipAt, writeRule, rule}
+use Rattle.term.specs.Compared.{comparedBy}
 use Rattle.walks.specs.declared.value.Value.{Value}
 use Rattle.walks.specs.declared.relation.Index.{Index}
 use Rattle.walks.specs.declared.walking.Landing.{Landing}
 use Rattle.walks.specs.declared.walking.Landing.the-variants.{Found, Stopped}
+use Rattle.walks.specs.declared.walking.Walked.{Walked}
 use Rattle.walks.specs.Value.{valueFrom, valueOf, valueAt, plainFrom}
-use Rattle.walks.specs.Walked.{landing}
+use Rattle.walks.specs.Walked.{landing, walkedBy}
 use Rattle.walks.specs.Ready.{Sought}
 use Rattle.walks.proofs.Stores.{NoStore, no-store, store-at}
 use Rattle.walks.proofs.Walks.{lands-below}
+use Rattle.rules.specs.declared.Made.{Made}
+use Rattle.rules.specs.Made.{made, Makes}
 use Rattle.rules.specs.Ready.{Unary, Reading}
 
 -- ---- plain names
@@ -57,27 +61,32 @@ read-lands M f i (passed m onward) = read-lands M f i onward
 read-lands M f i (undecided m) = refl
 read-lands M f i (ended m) = refl
 
-module _ (M limit : ℕ) (f : ℕ → Term) (g : ℕ → Range) (m i : ℕ) (l : Landing) (z : Row) (end : l ≡ landing (walk f g i limit m)) where
-  read-ends : readRule M limit f g m i ≡ landed M f i l
-  unfolding readRule
-  read-ends = read-lands M f i (walk f g i limit m) ∙ rw end
+module _ (M limit : ℕ) (f : ℕ → Term) (g : ℕ → Range) (m i : ℕ) (v : Walked) (z : Row) (y : Made) (told : v ≡ walkedBy (walk f g i limit m)) (made-is : y ≡ made z (v .compared)) where
+  read-made : z ≡ rowOf (readRule M limit f g m i) → Makes M limit f g (read m i) y
+  unfolding rule comparedBy walkedBy
+  read-made q = rw made-is (record { row = q; compared = ap (λ (u : Walked). u .compared) told })
 
-  pub read-found : (c : ℕ) → l ≡ Found c → z ≡ rowOf (shiftRule M f c 0) → z ≡ rowOf (readRule M limit f g m i)
+  read-ends : readRule M limit f g m i ≡ landed M f i (v .landing)
+  unfolding readRule walkedBy
+  read-ends = read-lands M f i (walk f g i limit m) ∙ ap (λ (u : Walked). landed M f i (u .landing)) (sym told)
+
+  pub read-found : (c : ℕ) → v .landing ≡ Found c → z ≡ rowOf (shiftRule M f c 0) → Makes M limit f g (read m i) y
   unfolding landed
-  read-found c e q = rw (read-ends, e) q
+  read-found c e q = read-made (rw (read-ends, e) q)
 
-  pub read-stopped : (n p : ℕ) (j : Index) → l ≡ Stopped n → Sought f g i j → p ≡ plainFrom i (j .value) → z ≡ row READ n p 0 0 0
-      → z ≡ rowOf (readRule M limit f g m i)
+  pub read-stopped : (n p : ℕ) (j : Index) → v .landing ≡ Stopped n → Sought f g i j → p ≡ plainFrom i (j .value) → z ≡ row READ n p 0 0 0
+      → Makes M limit f g (read m i) y
   unfolding landed rowOf
-  read-stopped n p j e s q k = rw (read-ends, e, ← plain-at f i p (j .value) (s .value) q) k
+  read-stopped n p j e s q k = read-made (rw (read-ends, e, ← plain-at f i p (j .value) (s .value) q) k)
 
-module _ (R S : List ℕ) (w limit r m i : ℕ) (l : Landing) (given : Reading R w r m i) where
-  pub found-below : (c : ℕ) → l ≡ landing (walk (look R) (kept S) i limit m) → l ≡ Found c → Unary R w r c
+module _ (R S : List ℕ) (w limit r m i : ℕ) (v : Walked) (given : Reading R w r m i) where
+  pub found-below : (c : ℕ) → v ≡ walkedBy (walk (look R) (kept S) i limit m) → v .landing ≡ Found c → Unary R w r c
+  unfolding walkedBy
   found-below c e q =
       record {
         rows = given .rows;
         width = given .width;
-        below = rw (sym e ∙ q) at (lands-below R (kept S) r i limit m (given .rows) (given .array));
+        below = rw (sym (ap (λ (u : Walked). u .landing) e) ∙ q) at (lands-below R (kept S) r i limit m (given .rows) (given .array));
       }
 
 -- ---- WRITE

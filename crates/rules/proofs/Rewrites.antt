@@ -1,13 +1,15 @@
 -- The rewriting step, by the kind of the row, and what its rules ask. Assumes nothing.
 use Prim.Native.Nat.{ℕ}
-use mathlib.Core.Path.{_≡_}
+use mathlib.Core.Path.{_≡_, refl, ap, _∙_}
+use mathlib.Core.Bool.{false}
 use mathlib.Core.List.{List}
 use Rattle.range.specs.declared.Range.{Range}
 use Rattle.row.specs.declared.Row.{Row}
 use Rattle.row.specs.Bytes.{row}
 use Rattle.row.specs.Names.{CONST, VAR, SHIFT, SUM, DIFF, NEG, READ, FRESH, WRITE}
-use Rattle.term.specs.Term.{Term, shift, sum, diff, neg, read, write, termOf, rowOf}
-use Rattle.term.specs.Rule.{shiftRule, sumRule, diffRule, negRule, readRule, writeRule, rule}
+use Rattle.term.specs.Term.{Term, const, var, shift, sum, diff, neg, read, fresh, write, termOf, rowOf, isRead}
+use Rattle.term.specs.Rule.{shiftRule, sumRule, diffRule, negRule, writeRule, rule}
+use Rattle.term.proofs.Compared.{none-compared}
 use Rattle.walks.specs.Ready.{NamesBelow, SortsIn, Following}
 use Rattle.walks.proofs.Terms.{
   term-const,
@@ -23,6 +25,8 @@ use Rattle.walks.proofs.Terms.{
   term-past,
   NoKind,
 }
+use Rattle.rules.specs.declared.Made.{Made}
+use Rattle.rules.specs.Made.{made, Makes}
 use Rattle.rules.specs.Ready.{Unary, Binary, Reading, Writing, Asked, Traced}
 
 -- ---- what the rules ask
@@ -67,47 +71,51 @@ module _ (R S : List ℕ) (r : ℕ) (x : Row) (given : Traced R S r (termOf x)) 
 
 -- ---- the ways out of the code
 
-module _ (M limit : ℕ) (f : ℕ → Term) (g : ℕ → Range) (x y : Row) where
-  pub rewrite-const : x .kind ≡ CONST → y ≡ row CONST 0 0 0 (x .k) 0 → y ≡ rowOf (rule M limit f g (termOf x))
-  unfolding rule rowOf
-  rewrite-const e q = rw (term-const x e) q
-
-  pub rewrite-var : x .kind ≡ VAR → y ≡ row VAR (x .a) 0 0 (x .k) (x .h) → y ≡ rowOf (rule M limit f g (termOf x))
-  unfolding rule rowOf
-  rewrite-var e q = rw (term-var x e) q
-
-  pub rewrite-shift : x .kind ≡ SHIFT → y ≡ rowOf (shiftRule M f (x .a) (x .k)) → y ≡ rowOf (rule M limit f g (termOf x))
-  unfolding rule
-  rewrite-shift e q = rw (term-shift x e) q
-
-  pub rewrite-sum : x .kind ≡ SUM → y ≡ rowOf (sumRule M f (x .a) (x .b) (x .k)) → y ≡ rowOf (rule M limit f g (termOf x))
-  unfolding rule
-  rewrite-sum e q = rw (term-sum x e) q
-
-  pub rewrite-diff : x .kind ≡ DIFF → y ≡ rowOf (diffRule M f (x .a) (x .b) (x .k)) → y ≡ rowOf (rule M limit f g (termOf x))
-  unfolding rule
-  rewrite-diff e q = rw (term-diff x e) q
-
-  pub rewrite-neg : x .kind ≡ NEG → y ≡ rowOf (negRule M f (x .a) (x .k)) → y ≡ rowOf (rule M limit f g (termOf x))
-  unfolding rule
-  rewrite-neg e q = rw (term-neg x e) q
-
-  pub rewrite-read : x .kind ≡ READ → y ≡ rowOf (readRule M limit f g (x .a) (x .b)) → y ≡ rowOf (rule M limit f g (termOf x))
-  unfolding rule
+module _ (M limit : ℕ) (f : ℕ → Term) (g : ℕ → Range) (x : Row) (y : Made) where
+  -- a rule that walks makes more than a row
+  pub rewrite-read : x .kind ≡ READ → Makes M limit f g (read (x .a) (x .b)) y → Makes M limit f g (termOf x) y
   rewrite-read e q = rw (term-read x e) q
 
-  pub rewrite-fresh : x .kind ≡ FRESH → y ≡ row FRESH 0 0 0 0 0 → y ≡ rowOf (rule M limit f g (termOf x))
-  unfolding rule rowOf
-  rewrite-fresh e q = rw (term-fresh x e) q
+  module _ {z : Row} (made-at-once : y ≡ made z 0) where
+    at-once : (t : Term) → termOf x ≡ t → isRead t ≡ false → z ≡ rowOf (rule M limit f g t) → Makes M limit f g (termOf x) y
+    at-once t e word q = rw e (record { row = ap (λ (v : Made). v .row) made-at-once ∙ q; compared = ap (λ (v : Made). v .compared) made-at-once ∙ none-compared limit f g t word })
 
-  pub rewrite-write : x .kind ≡ WRITE → y ≡ rowOf (writeRule f g (x .a) (x .b) (x .c)) → y ≡ rowOf (rule M limit f g (termOf x))
-  unfolding rule
-  rewrite-write e q = rw (term-write x e) q
+    pub rewrite-const : x .kind ≡ CONST → z ≡ row CONST 0 0 0 (x .k) 0 → Makes M limit f g (termOf x) y
+    unfolding rule rowOf isRead
+    rewrite-const e q = at-once (const (x .k)) (term-const x e) refl q
 
-  pub rewrite-zero : x .kind ≡ 0 → y ≡ row CONST 0 0 0 0 0 → y ≡ rowOf (rule M limit f g (termOf x))
-  unfolding rule rowOf
-  rewrite-zero e q = rw (term-zero x e) q
+    pub rewrite-var : x .kind ≡ VAR → z ≡ row VAR (x .a) 0 0 (x .k) (x .h) → Makes M limit f g (termOf x) y
+    unfolding rule rowOf isRead
+    rewrite-var e q = at-once (var (x .a) (x .k) (x .h)) (term-var x e) refl q
 
-  pub rewrite-past : NoKind (x .kind) → y ≡ row CONST 0 0 0 0 0 → y ≡ rowOf (rule M limit f g (termOf x))
-  unfolding rule rowOf
-  rewrite-past e q = rw (term-past x e) q
+    pub rewrite-shift : x .kind ≡ SHIFT → z ≡ rowOf (shiftRule M f (x .a) (x .k)) → Makes M limit f g (termOf x) y
+    unfolding rule isRead
+    rewrite-shift e q = at-once (shift (x .a) (x .k)) (term-shift x e) refl q
+
+    pub rewrite-sum : x .kind ≡ SUM → z ≡ rowOf (sumRule M f (x .a) (x .b) (x .k)) → Makes M limit f g (termOf x) y
+    unfolding rule isRead
+    rewrite-sum e q = at-once (sum (x .a) (x .b) (x .k)) (term-sum x e) refl q
+
+    pub rewrite-diff : x .kind ≡ DIFF → z ≡ rowOf (diffRule M f (x .a) (x .b) (x .k)) → Makes M limit f g (termOf x) y
+    unfolding rule isRead
+    rewrite-diff e q = at-once (diff (x .a) (x .b) (x .k)) (term-diff x e) refl q
+
+    pub rewrite-neg : x .kind ≡ NEG → z ≡ rowOf (negRule M f (x .a) (x .k)) → Makes M limit f g (termOf x) y
+    unfolding rule isRead
+    rewrite-neg e q = at-once (neg (x .a) (x .k)) (term-neg x e) refl q
+
+    pub rewrite-fresh : x .kind ≡ FRESH → z ≡ row FRESH 0 0 0 0 0 → Makes M limit f g (termOf x) y
+    unfolding rule rowOf isRead
+    rewrite-fresh e q = at-once fresh (term-fresh x e) refl q
+
+    pub rewrite-write : x .kind ≡ WRITE → z ≡ rowOf (writeRule f g (x .a) (x .b) (x .c)) → Makes M limit f g (termOf x) y
+    unfolding rule isRead
+    rewrite-write e q = at-once (write (x .a) (x .b) (x .c)) (term-write x e) refl q
+
+    pub rewrite-zero : x .kind ≡ 0 → z ≡ row CONST 0 0 0 0 0 → Makes M limit f g (termOf x) y
+    unfolding rule rowOf isRead
+    rewrite-zero e q = at-once (const 0) (term-zero x e) refl q
+
+    pub rewrite-past : NoKind (x .kind) → z ≡ row CONST 0 0 0 0 0 → Makes M limit f g (termOf x) y
+    unfolding rule rowOf isRead
+    rewrite-past e q = at-once (const 0) (term-past x e) refl q

@@ -25,17 +25,21 @@ use Rattle.term.specs.Bytes.{look, putIf}
 use Rattle.term.specs.Seen.{isLater, seen}
 use Rattle.term.specs.Rule.{rule}
 use Rattle.term.specs.Result.{ruleAt}
+use Rattle.term.specs.Compared.{comparedBy}
 use Rattle.term.proofs.Rows.{term-row}
 use Rattle.term.proofs.Names.{names-widen, names-both}
 use Rattle.term.proofs.Inside.{rule-at-in}
 use Rattle.term.proofs.WellFormed.{rule-at-stands}
+use Rattle.term.proofs.Compared.{later-compared}
 use Rattle.term.proofs.Seen.{seen-own, seen-small, is-later, no-later, by-name-own, by-name-later}
 use Rattle.term.proofs.Looked.{name-small, small-term}
 use Rattle.term.proofs.Placed.{length-put-if, put-if-other}
 use Rattle.walks.specs.Ready.{NamesBelow, SortsIn, Standing, Linked}
 use Rattle.walks.proofs.Reach.{rows-closed, sorts-closed}
+use Rattle.rules.specs.declared.Made.{Made}
+use Rattle.rules.specs.Made.{made, Makes, MakesAt}
 use Rattle.rules.specs.Ready.{Asked, Traced, Ranging}
-use Rattle.rules.specs.Written.{entry, origin, CanWrite, settled, becomes, Settled, Written}
+use Rattle.rules.specs.Written.{entry, origin, CanWrite, settled, becomes, comparedIn, Settled, Written}
 use Rattle.rules.proofs.RowRanges.{WordsProper, words-proper, entry-proper, entry-store, entry-end}
 
 -- ---- the row that is made
@@ -84,12 +88,15 @@ module _ (T R S : List ℕ) (w limit r first : ℕ) (given : CanWrite T R S w r 
       (rw (rule-at-stands (2 ^ w) (pow-pos w) limit (look T) (look R) (kept S) r read-fits .2) (seen-small (look T) 65536 (lit< tt) (name-small T) r)) made-names
 
   -- a later VAR of a name
-  pub made-later : first < r → {x : Row} → x ≡ row SHIFT first 0 0 0 0 → x ≡ rowOf (ruleAt (2 ^ w) limit (look T) (look R) (kept S) r)
+  pub made-later : first < r → {x : Row} {y : Made} → x ≡ row SHIFT first 0 0 0 0 → y ≡ made x 0 → MakesAt (2 ^ w) limit (look T) (look R) (kept S) r y
   unfolding ruleAt rowOf
-  made-later l e =
-      e ∙
-      ap (λ (y : ℕ). rowOf (shift y 0)) (given .first-is) ∙
-      ap rowOf (sym (by-name-later (look T) r (is-later (look T) r (rw (given .first-is) at l)) _))
+  made-later l e made-is =
+      let later : isLater (look T) r ≡ true = is-later (look T) r (rw (given .first-is) at l) in
+      rw made-is
+      (record {
+        row = e ∙ ap (λ (y : ℕ). rowOf (shift y 0)) (given .first-is) ∙ ap rowOf (sym (by-name-later (look T) r later _));
+        compared = later-compared limit (look R) (kept S) (look T) r later;
+      })
 
   -- every other row, as it is decoded
   module _ (own : r ≤ first) (y : Row) (row : Decoded T r y) where
@@ -105,9 +112,14 @@ module _ (T R S : List ℕ) (w limit r first : ℕ) (given : CanWrite T R S w r 
     pub made-traced : Traced R S r (termOf y)
     made-traced = record { links = given .links; sorted = given .sorted; sorts = rw read-is at read-sorts }
 
-    pub made-own : {x : Row} → x ≡ rowOf (rule (2 ^ w) limit (look R) (kept S) (termOf y)) → x ≡ rowOf (ruleAt (2 ^ w) limit (look T) (look R) (kept S) r)
+    pub made-own : {x : Made} → Makes (2 ^ w) limit (look R) (kept S) (termOf y) x → MakesAt (2 ^ w) limit (look T) (look R) (kept S) r x
     unfolding ruleAt
-    made-own e = e ∙ ap (λ (u : Term). rowOf (rule (2 ^ w) limit (look R) (kept S) u)) (decoded-term T r y row) ∙ ap rowOf (sym (by-name-own (look T) r not-later _))
+    made-own makes =
+        let own : termOf y ≡ look T r = decoded-term T r y row in
+        record {
+          row = makes .row ∙ ap (λ (u : Term). rowOf (rule (2 ^ w) limit (look R) (kept S) u)) own ∙ ap rowOf (sym (by-name-own (look T) r not-later _));
+          compared = makes .compared ∙ ap (comparedBy limit (look R) (kept S)) own;
+        }
 
 -- ---- settling a row
 
@@ -116,43 +128,52 @@ module _ (T R S : List ℕ) (w limit r first : ℕ) (touched : Bool) (given : Ca
   unfolding origin
   origin-kept e = rw e
 
-  pub settle-kept : (x : Row) → touched ≡ false → Decoded R r x → Settled T R R S w limit r touched x
-  unfolding settled becomes putIf
-  settle-kept x e d =
+  pub settle-kept : (x : Row) (y : Made) → touched ≡ false → Decoded R r x → y ≡ made x 0 → Settled T R R S w limit r touched y
+  unfolding settled becomes comparedIn putIf
+  settle-kept x y e d made-is =
       let same : origin T R r touched ≡ termOf x = origin-kept e ∙ sym (decoded-term R r x d) in
-      record {
+      rw made-is
+      (record {
         result = rw e;
         row = decoded-term R r x d;
         becomes = rw e (decoded-term R r x d);
         fits = rw same at (given .fits);
         names = rw same at (given .names);
         sorts = rw same at (given .sorts);
-      }
+        compared = rw e;
+      })
 
   pub settle-makes : touched ≡ true → CanWrite T R S w r first true
   settle-makes e = rw e at given
 
-  module _ (test : touched ≡ true) (x : Row) (is : x ≡ rowOf (ruleAt (2 ^ w) limit (look T) (look R) (kept S) r)) where
-    term-made : termOf x ≡ ruleAt (2 ^ w) limit (look T) (look R) (kept S) r
+  module _ (test : touched ≡ true) (x : Made) (makes : MakesAt (2 ^ w) limit (look T) (look R) (kept S) r x) where
+    is : x .row ≡ rowOf (ruleAt (2 ^ w) limit (look T) (look R) (kept S) r)
+    is = makes .row
+
+    term-made : termOf (x .row) ≡ ruleAt (2 ^ w) limit (look T) (look R) (kept S) r
     term-made = ap termOf is ∙ term-row (ruleAt (2 ^ w) limit (look T) (look R) (kept S) r)
 
-    pub settle-made : (R′ : List ℕ) (source : ℕ) → Read (sourceAt T r) (2 ^ 32) source → R′ ≡ putRow R r x source → Settled T R R′ S w limit r touched x
-    unfolding settled becomes putIf look
+    pub settle-made : (R′ : List ℕ) (source : ℕ) → Read (sourceAt T r) (2 ^ 32) source → R′ ≡ putRow R r (x .row) source → Settled T R R′ S w limit r touched x
+    unfolding settled becomes comparedIn putIf look
     settle-made R′ source carried e =
         let given′ : CanWrite T R S w r first true = settle-makes test in
         record {
           result = e ∙ rw (test, is, carried .is);
-          row = ap termOf (sym (put-read R r x source (given .room) (rw is (made-small T R S w limit r first given′)))) ∙ rw e;
+          row = ap termOf (sym (put-read R r (x .row) source (given .room) (rw is (made-small T R S w limit r first given′)))) ∙ rw e;
           becomes = rw test term-made;
           fits = rw term-made (made-fits T R S w limit r first given′);
           names = rw term-made (made-names T R S w limit r first given′);
           sorts = rw term-made (made-sorts T R S w limit r first given′);
+          compared = makes .compared ∙ sym (rw test);
         }
 
 -- ---- what stands after the turn
 
-module _ (T R R′ S : List ℕ) (w limit r first : ℕ) (touched : Bool) (x : Row)
-    (given : CanWrite T R S w r first touched) (done : Settled T R R′ S w limit r touched x) where
+module _ (T R R′ S : List ℕ) (w limit r first : ℕ) (touched : Bool) (made-row : Made)
+    (given : CanWrite T R S w r first touched) (done : Settled T R R′ S w limit r touched made-row) where
+  abbrev x : Row
+  x = made-row .row
+
   settled-length : length R′ ≡ length R
   unfolding settled
   settled-length =
@@ -235,8 +256,8 @@ module _ (T R R′ S : List ℕ) (w limit r first : ℕ) (touched : Bool) (x : R
           ends = λ y l e. settled-entry fresh (point MOST) (entry-end (2 ^ w) (kept S)) (given .links .ends) y l e;
         }
 
-    pub turn-written : Written T R R′ S S′ w limit r touched
-    turn-written =
+    pub turn-written : {compared : ℕ} → compared ≡ made-row .compared → Written T R R′ S S′ w limit r touched compared
+    turn-written counted =
         record {
           result = done .result;
           row = sym (done .row) ∙ done .becomes;
@@ -245,4 +266,5 @@ module _ (T R R′ S : List ℕ) (w limit r first : ℕ) (touched : Bool) (x : R
           sorted = record { sorts = settled-sorts };
           ranges = record { whole = ap length saved ∙ keep-length S r a ∙ given .ranges .whole; proper = settled-proper };
           links = settled-links;
+          counted = counted ∙ done .compared;
         }

@@ -7,7 +7,6 @@ use lib.ListN.{length}
 use Rattle.range.specs.declared.Range.{Range}
 use Rattle.range.specs.Range.{span, point}
 use Rattle.range.specs.Store.{kept, keep}
-use Rattle.row.specs.declared.Row.{Row}
 use Rattle.row.specs.Names.{LENGTH, place}
 use Rattle.row.specs.Bytes.{sourceAt}
 use Rattle.table.specs.Refusals.{MOST}
@@ -16,8 +15,10 @@ use Rattle.term.specs.Bytes.{look, putIf}
 use Rattle.term.specs.Relation.{rangeBy}
 use Rattle.term.specs.Seen.{firstRow, seen}
 use Rattle.term.specs.Result.{ruleAt}
+use Rattle.term.specs.Compared.{comparedBy}
 use Rattle.term.specs.WellFormed.{Fits}
 use Rattle.walks.specs.Ready.{NamesBelow, SortsIn, Standing, Sorted, Linked}
+use Rattle.rules.specs.declared.Made.{Made}
 use Rattle.rules.specs.Ready.{Ranged}
 
 -- what the store keeps for a row: the range of a word. An array has none, and the place serves the walks: a WRITE has there the row that it is written on and
@@ -60,16 +61,21 @@ settled T R S w limit r touched = putIf touched r (rowOf (ruleAt (2 ^ w) limit (
 unfoldable pub becomes : List ℕ → List ℕ → List ℕ → ℕ → ℕ → ℕ → Bool → Term
 becomes T R S w limit r touched = cond touched (ruleAt (2 ^ w) limit (look T) (look R) (kept S) r) (look R r)
 
--- x is that row
-pub record Settled (T R R′ S : List ℕ) (w limit r : ℕ) (touched : Bool) (x : Row) : Type 0 where
-  pub result : R′ ≡ settled T R S w limit r touched
-  pub row : termOf x ≡ look R′ r
-  pub becomes : termOf x ≡ becomes T R S w limit r touched
-  pub fits : Fits (2 ^ w) (termOf x)
-  pub names : NamesBelow r (termOf x)
-  pub sorts : SortsIn R (termOf x)
+-- how many stores are compared in the turn
+unfoldable pub comparedIn : List ℕ → List ℕ → List ℕ → ℕ → ℕ → Bool → ℕ
+comparedIn T R S limit r touched = cond touched (comparedBy limit (look R) (kept S) (look T r)) 0
 
-pub record Written (T R R′ S S′ : List ℕ) (w limit r : ℕ) (touched : Bool) : Type 0 where
+-- x is that row, with that number
+pub record Settled (T R R′ S : List ℕ) (w limit r : ℕ) (touched : Bool) (x : Made) : Type 0 where
+  pub result : R′ ≡ settled T R S w limit r touched
+  pub row : termOf (x .row) ≡ look R′ r
+  pub becomes : termOf (x .row) ≡ becomes T R S w limit r touched
+  pub fits : Fits (2 ^ w) (termOf (x .row))
+  pub names : NamesBelow r (termOf (x .row))
+  pub sorts : SortsIn R (termOf (x .row))
+  pub compared : x .compared ≡ comparedIn T R S limit r touched
+
+pub record Written (T R R′ S S′ : List ℕ) (w limit r : ℕ) (touched : Bool) (compared : ℕ) : Type 0 where
   pub result : R′ ≡ settled T R S w limit r touched
   pub row : look R′ r ≡ becomes T R S w limit r touched
   pub store : S′ ≡ keep S r (entry (2 ^ w) (kept S) (look R′ r))
@@ -77,3 +83,4 @@ pub record Written (T R R′ S S′ : List ℕ) (w limit r : ℕ) (touched : Boo
   pub sorted : Sorted R′ (suc r)
   pub ranges : Ranged (2 ^ w) R′ S′ (suc r)
   pub links : Linked R′ S′ (suc r)
+  pub counted : compared ≡ comparedIn T R S limit r touched

@@ -2,12 +2,14 @@
 ghost use mathlib.Core.Path.{_≡_};
 ghost use Prim.Native.Nat.{_^_};
 ghost use Rattle.range.specs.Store.{kept};
-ghost use Rattle.term.specs.Term.{rowOf};
+ghost use Rattle.term.specs.Term.{rowOf, read};
 ghost use Rattle.term.specs.Bytes.{look};
-ghost use Rattle.term.specs.Rule.{readRule, writeRule, skipAt};
+ghost use Rattle.term.specs.Rule.{writeRule, skipAt};
 ghost use Rattle.walks.specs.Ready.{Walking, Following};
 ghost use Rattle.rules.specs.Ready.{Reading, Writing};
+ghost use Rattle.rules.specs.Made.{Makes};
 use super::words::shift_rule;
+use crate::Made;
 use row::Row;
 use term::Relation;
 use walks::Index;
@@ -27,16 +29,21 @@ pub fn read_rule(
     r: usize,
     m: usize,
     i: usize,
-) -> Row
+) -> Made
     requires { ⌜ Reading (now result) w r m i ⌝ ∗ ⌜ Following (now result) (now store) r m ⌝ }
-    ensures { λ x. ⌜ x ≡ rowOf (readRule (2 ^ w) limit (look (now (result .entry))) (kept (now (store .entry))) m i) ⌝ }
+    ensures { λ x. ⌜ Makes (2 ^ w) limit (look (now (result .entry))) (kept (now (store .entry))) (read m i) x ⌝ }
 {
     let j = index_at(result, store, i);
-    match walk(result, store, limit, r, i, j, m) {
-        Landing::Found(c) => shift_rule(result, w, r, c, 0),
+    let walked = walk(result, store, limit, r, i, j, m);
+    let landing = walked.landing;
+    match landing {
+        Landing::Found(c) => Made::make(shift_rule(result, w, r, c, 0), walked.compared),
         Landing::Stopped(n) => {
             let v = j.value;
-            Row::make(Row::READ, n, plain_name(v, i), 0, 0, 0)
+            Made::make(
+                Row::make(Row::READ, n, plain_name(v, i), 0, 0, 0),
+                walked.compared,
+            )
         }
     }
 }

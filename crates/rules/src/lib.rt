@@ -6,5 +6,31 @@ mod turn;
 mod words;
 
 pub use ranges::entry_of;
-pub use turn::rewrite;
+use row::Row;
 pub use turn::write_row;
+ghost use mathlib.Core.Path.{_≡_};
+ghost use Rattle.rules.specs.Made.{made};
+
+// A result row, and how many stores were compared to make it.
+pub struct Made {
+    pub row: Row,
+    pub compared: usize,
+}
+
+impl Made {
+    pub fn make(row: Row, compared: usize) -> Made
+        ensures { λ x. ⌜ x ≡ made row compared ⌝ }
+    {
+        Made {
+            row: row,
+            compared: compared,
+        }
+    }
+
+    // A row that is made without a walk.
+    pub fn at_once(row: Row) -> Made
+        ensures { λ x. ⌜ x ≡ made row 0 ⌝ }
+    {
+        Made::make(row, 0)
+    }
+}

@@ -1,2 +1,3 @@
 -- What the contracts of this program say.
+pub mod Limit
 pub mod Shown

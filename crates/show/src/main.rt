@@ -1,5 +1,9 @@
-// Reads one table from standard input, makes a fresh run and prints the result, or why the table is refused.
+// Reads one table from standard input, makes a fresh run and prints the result, or why the table is refused. The run's limit is the argument's, or the greatest.
+mod limit;
+
+use argument::Parsed;
 use libc::STDIN_FILENO;
+use libc::STDOUT_FILENO;
 use printing::print;
 use printing::print_refusal;
 use row::Row;
@@ -59,11 +63,12 @@ fn rows(size: usize) -> usize
     size / Row::LENGTH
 }
 
-fn main() {
+// Reads the table and prints its result where a READ compares at most `limit` stores, or the refusal.
+fn show(limit: u64) {
     let mut table = [0u8; LARGEST + 1];
     let size = io::read_full(STDIN_FILENO, &mut table);
     let mut result = [0u8; LARGEST];
-    let answer = simplify::run(&table[..size], &mut result);
+    let answer = simplify::run(&table[..size], &mut result, limit);
     if answer.refusal != 0 {
         print_refusal(answer.refusal, answer.row);
         return;
@@ -71,5 +76,19 @@ fn main() {
     let n = rows(size);
     if print_head(table::width_of(&result) as u64, n as u64) {
         print_rows(&result, n);
+    }
+}
+
+fn print_use() {
+    io::write_all(
+        STDOUT_FILENO,
+        b"use: show [--limit L] < TABLE, L from 0 to 1024\n",
+    );
+}
+
+fn main() {
+    match limit::limit_asked() {
+        Parsed::Number(limit) => show(limit),
+        Parsed::Nothing => print_use(),
     }
 }

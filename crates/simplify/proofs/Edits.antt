@@ -19,21 +19,21 @@ use Rattle.table.specs.declared.Verdict.{Verdict}
 use Rattle.table.specs.Refusals.{rows, refuse, accepted, headReasons, checkRows, checkTable}
 use Rattle.table.proofs.Heads.{good-head}
 use Rattle.table.proofs.Faulty.{given-passes, given-refuses}
-use Rattle.term.specs.Result.{removedRows}
-use Rattle.term.specs.Bytes.{look, edited}
+use Rattle.term.specs.Bytes.{edited}
 use Rattle.term.proofs.Acceptable.{same-rows}
 use Rattle.judge.specs.Verdict.{isAccepted}
+use Rattle.judge.specs.Run.{LIMIT}
 use Rattle.judge.specs.Kept.{keptPart, keptWrong, keptVerdict}
 use Rattle.judge.specs.Edit.{editReasons}
 use Rattle.judge.specs.Judge.{KeptThere}
 use Rattle.judge.proofs.Verdicts.{accepted-is, table-passes, head-same}
 use Rattle.judge.proofs.Granted.{EditReady, edit-ready}
 use Rattle.simplify.specs.declared.Answer.{Answer}
-use Rattle.simplify.specs.Answer.{answer, answered}
-use Rattle.simplify.specs.Edit.{editVerdict, editedRows, editedBytes, touchedRows, editAnswer, editTable, editKept, Edited}
-use Rattle.simplify.specs.Patch.{CanTake, CanPut, CanPatch, Patched}
+use Rattle.simplify.specs.Answer.{answer}
+use Rattle.simplify.specs.Edit.{editVerdict, editedBytes, editAnswer, editTable, editKept, Edited}
+use Rattle.simplify.specs.Patch.{CanTake, CanPut, CanPatch, patchAnswer, Patched}
 use Rattle.simplify.proofs.Granted.{EditGranted, edit-granted}
-use Rattle.simplify.proofs.FreshRun.{accepted-answer}
+use Rattle.simplify.proofs.FreshRun.{accepted-answer, refused-answer}
 
 row-long : (t : List ℕ) (r : ℕ) → place r + LENGTH ≤ length t → length (take LENGTH (drop (place r) t)) ≡ LENGTH
 row-long t r here = length-take-le LENGTH (drop (place r) t) (rw (length-drop (place r) t) (omega arith))
@@ -54,28 +54,32 @@ row-put t r at bytes can is e = e ∙ ap₂ (λ (k : ℕ) (vs : List ℕ). sets 
 
 -- ---- the edit
 
-module _ (t kept : List ℕ) (r : ℕ) (new : List ℕ) where
+module _ (t kept : List ℕ) (r : ℕ) (new : List ℕ) (limit : ℕ) where
   -- a refusal: both buffers are as they were
-  refused-by : {v : Verdict} {a : Answer} → editVerdict t kept r new ≡ v → (v .number ≡ 0 → ⊥) → a ≡ answer (v .number) (v .row) 0 0 → Edited t kept r new a t kept
-  unfolding editAnswer editTable editKept answered isAccepted
+  refused-by : {v : Verdict} {a : Answer} → editVerdict t kept r new limit ≡ v → (v .number ≡ 0 → ⊥) → a ≡ answer (v .number) (v .row) 0 0 0 → Edited t kept r new limit a t kept
+  unfolding editAnswer editTable editKept isAccepted
   refused-by e h is =
-      let no : eqb (editVerdict t kept r new .number) 0 ≡ false = ne-eqb _ 0 (λ z. h (ap (λ (u : Verdict). u .number) (sym e) ∙ z)) in
+      let refused : editVerdict t kept r new limit .number ≡ 0 → ⊥ = λ z. h (ap (λ (u : Verdict). u .number) (sym e) ∙ z) in
+      let nothing : eqb (editVerdict t kept r new limit .number) 0 ≡ false = ne-eqb _ 0 refused in
       record {
-        answer-is = is ∙ ap (λ (u : Verdict). answer (u .number) (u .row) 0 0) (sym e) ∙ sym (rw no);
-        table-is = sym (rw no);
-        kept-is = sym (rw no);
+        answer-is = is ∙ ap (λ (u : Verdict). answer (u .number) (u .row) 0 0 0) (sym e) ∙ sym (refused-answer (editVerdict t kept r new limit) _ _ _ refused);
+        table-is = sym (rw nothing);
+        kept-is = sym (rw nothing);
       }
 
-  module _ {number : ℕ} (numbered : number ≡ first (editReasons t kept r new)) where
-    pub edit-refused : {a : Answer} → (number ≡ 0 → ⊥) → a ≡ answer number 0 0 0 → Edited t kept r new a t kept
+  module _ {number : ℕ} (numbered : number ≡ first (editReasons t kept r new limit)) where
+    pub edit-refused : {a : Answer} → (number ≡ 0 → ⊥) → a ≡ answer number 0 0 0 0 → Edited t kept r new limit a t kept
     unfolding editVerdict refuse
     edit-refused h is =
         refused-by (given-refuses _ 0 (checkRows (edited t r new) (keptVerdict (edited t r new) (keptPart t kept) accepted)) (λ z. h (numbered ∙ z))) (λ z. h (numbered ∙ z))
-        (is ∙ ap (λ (n : ℕ). answer n 0 0 0) numbered)
+        (is ∙ ap (λ (n : ℕ). answer n 0 0 0 0) numbered)
 
     module _ (z : number ≡ 0) where
-      ready : EditReady t kept r new
-      ready = edit-ready t kept r new (sym numbered ∙ z)
+      ready : EditReady t kept r new limit
+      ready = edit-ready t kept r new limit (sym numbered ∙ z)
+
+      pub edit-few : limit ≤ LIMIT
+      edit-few = ready .few
 
       size : length t ≡ place (rows t)
       size = good-head t (ready .roomy .head) .size
@@ -122,46 +126,46 @@ module _ (t kept : List ℕ) (r : ℕ) (new : List ℕ) where
               sets-undone t (place r) new (rw (ready .long) here)
 
           module _ {v : Verdict} (judged : v ≡ checkRows t′ (keptVerdict t′ (keptPart t′ kept) accepted)) where
-            verdict-is : editVerdict t kept r new ≡ v
+            verdict-is : editVerdict t kept r new limit ≡ v
             unfolding editVerdict
             verdict-is =
                 given-passes _ 0 _ (sym numbered ∙ z) ∙
                 ap₂ (λ (l m : List ℕ). checkRows l (keptVerdict l m accepted)) (sym put) parts ∙ sym judged
 
-            pub edited-refused : {t″ : List ℕ} {a : Answer} → (v .number ≡ 0 → ⊥) → t″ ≡ edited t′ r old → a ≡ answer (v .number) (v .row) 0 0 → Edited t kept r new a t″ kept
+            pub edited-refused : {t″ : List ℕ} {a : Answer} → (v .number ≡ 0 → ⊥) → t″ ≡ edited t′ r old → a ≡ answer (v .number) (v .row) 0 0 0 → Edited t kept r new limit a t″ kept
             edited-refused h restored is = rw (restored ∙ back) (refused-by verdict-is h is)
 
             module _ (fine : v .number ≡ 0) where
-              yes : isAccepted (editVerdict t kept r new) ≡ true
+              yes : isAccepted (editVerdict t kept r new limit) ≡ true
               yes = accepted-is _ (ap (λ (u : Verdict). u .number) verdict-is ∙ fine)
 
-              granted : EditGranted t kept r new
-              granted = edit-granted t kept r new yes
+              granted : EditGranted t kept r new limit
+              granted = edit-granted t kept r new limit yes
 
               passes : checkTable t′ ≡ accepted
               passes = table-passes t′ (keptVerdict t′ (keptPart t′ kept) accepted) head (ap (λ (u : Verdict). u .number) (sym judged) ∙ fine)
 
-              pub edit-patches : CanPatch t′ old kept r
-              edit-patches =
+              -- with this limit, or another
+              pub edit-patches : {most : ℕ} → most ≤ LIMIT → CanPatch t′ old kept r most
+              edit-patches few =
                   record {
                     table = passes;
                     row = rw rows-same (ready .row);
                     long = ap length taken ∙ row-long t r here;
                     room = rw long (ready .roomy .room);
                     right = ap₂ (λ (l m : List ℕ). keptWrong l m) put (sym parts) ∙ granted .kept-right;
+                    limited = few;
                   }
 
-              pub edit-done : {a : Answer} {left : List ℕ} → Patched t′ old kept r a left → Edited t kept r new a t′ left
-              unfolding editAnswer editTable editKept
+              pub edit-done : {a : Answer} {left : List ℕ} → Patched t′ old kept r limit a left → Edited t kept r new limit a t′ left
+              unfolding editAnswer editTable editKept patchAnswer
               edit-done done =
                   record {
                     answer-is =
-                        done .answer-is ∙
-                        ap (λ (b : List ℕ). answer 0 0 (removedRows (look t′) (editedRows b t′ r kept) (rows t′)) (touchedRows b t′ r)) back ∙
-                        ap₂ (λ (l : List ℕ) (n : ℕ). answer 0 0 (removedRows (look l) (editedRows t l r kept) n) (touchedRows t l r)) put rows-same ∙
-                        sym (rw (granted .verdict) (accepted-answer (removedRows (look (edited t r new)) (editedRows t (edited t r new) r kept) (rows t)) (touchedRows t (edited t r new) r)));
-                    table-is = put ∙ sym (pick-true (isAccepted (editVerdict t kept r new)) (edited t r new) t yes);
+                        done .answer-is ∙ ap₂ (λ (b l : List ℕ). patchAnswer limit b l r kept) back put ∙
+                        sym (rw (granted .verdict) (accepted-answer _ _ _));
+                    table-is = put ∙ sym (pick-true (isAccepted (editVerdict t kept r new limit)) (edited t r new) t yes);
                     kept-is =
-                        done .kept-is ∙ ap₂ (λ (b l : List ℕ). editedBytes b l r kept) back put ∙
-                        sym (pick-true (isAccepted (editVerdict t kept r new)) (editedBytes t (edited t r new) r kept) kept yes);
+                        done .kept-is ∙ ap₂ (λ (b l : List ℕ). editedBytes limit b l r kept) back put ∙
+                        sym (pick-true (isAccepted (editVerdict t kept r new limit)) (editedBytes limit t (edited t r new) r kept) kept yes);
                   }

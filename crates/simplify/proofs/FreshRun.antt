@@ -1,12 +1,11 @@
 -- A fresh run: what its parts ask, and that what they leave is what the public promise says.
 use Prim.Native.Nat.{ℕ, _^_, _≤_, _<_, _-_}
 use native.Mathlib.Omega.{arith}
-use mathlib.Core.Path.{_≡_, refl, ap, ap₂, sym, _∙_}
+use mathlib.Core.Path.{_≡_, refl, ap, sym, _∙_}
 use mathlib.Core.Bool.{true, false, true≢false}
 use mathlib.Core.List.{List}
 use lib.ListN.{length, take, replicate}
 use lib.Seq.{sets, length-sets}
-use lib.Dec.{eqb}
 use borrow.Author.Tests.{ne-eqb}
 use Rattle.row.specs.Names.{HEADER, place}
 use Rattle.row.specs.Bytes.{sourceAt}
@@ -16,7 +15,7 @@ use Rattle.table.specs.declared.Verdict.{Verdict}
 use Rattle.table.specs.Refusals.{width, rows, MOST, refuse, accepted}
 use Rattle.table.specs.Accepted.{Accepted}
 use Rattle.table.proofs.Accepts.{accepted-gives}
-use Rattle.term.specs.Result.{result, removedRows}
+use Rattle.term.specs.Result.{result}
 use Rattle.term.specs.Bytes.{look}
 use Rattle.term.proofs.Names.{NamesBelow}
 use Rattle.term.proofs.Placed.{length-put-rows}
@@ -25,16 +24,17 @@ use Rattle.term.proofs.Accepted.{accepted-formed}
 use Rattle.marks.specs.Marks.{marked}
 use Rattle.marks.proofs.Marks.{all-marked}
 use Rattle.judge.specs.Verdict.{isAccepted}
-use Rattle.judge.specs.Run.{runVerdict}
+use Rattle.judge.specs.Run.{LIMIT, runVerdict}
 use Rattle.judge.proofs.Verdicts.{accepted-is}
 use Rattle.judge.proofs.Granted.{RunGranted, run-granted}
 use Rattle.simplify.specs.declared.Answer.{Answer}
-use Rattle.simplify.specs.Answer.{modulus, answer, answered}
-use Rattle.simplify.specs.Copy.{Rooms}
-use Rattle.simplify.specs.Renew.{CanRenew, Renewed}
-use Rattle.simplify.specs.Run.{freshRows, freshBytes, runAnswer, runResult, Ran}
+use Rattle.simplify.specs.Answer.{modulus, answer, ifAccepted, answered}
+use Rattle.copying.specs.Copy.{Rooms}
+use Rattle.renew.specs.declared.Counts.{Counts}
+use Rattle.renew.specs.Renew.{CanRenew, Renewed}
+use Rattle.simplify.specs.Run.{freshRows, freshBytes, freshRemoved, freshCompared, runAnswer, runResult, Ran}
 use Rattle.simplify.specs.Fresh.{CanFresh, Freshly}
-use Rattle.simplify.proofs.Outcome.{outcome-is, ranges-are, bytes-are, removed-is}
+use Rattle.renew.proofs.Outcome.{outcome-is, ranges-are, bytes-are, removed-is, compared-is}
 
 -- every row is marked
 pub record AllMarked (marks : List ℕ) : Type 0 where
@@ -43,7 +43,7 @@ pub record AllMarked (marks : List ℕ) : Type 0 where
 pub all-ones : AllMarked (replicate 16 (2 ^ 64 - 1))
 all-ones = record { all = all-marked }
 
-module _ (t buffer store : List ℕ) (can : CanFresh t buffer store) where
+module _ (t buffer store : List ℕ) (limit : ℕ) (can : CanFresh t buffer store limit) where
   ok : Accepted t
   ok = accepted-gives t (can .table)
 
@@ -59,12 +59,13 @@ module _ (t buffer store : List ℕ) (can : CanFresh t buffer store) where
   low : NamesBelow (look t)
   low = formed-below (2 ^ width t) (look t) (accepted-formed t ok)
 
-  asked : {marks : List ℕ} → AllMarked marks → CanRenew t begins store marks (width t) (rows t)
+  asked : {marks : List ℕ} → AllMarked marks → CanRenew t begins store marks (width t) limit (rows t)
   asked marks =
       let few : rows t ≤ MOST = ok .head .few in
       record {
         width = ok .head .width-high;
         few = few;
+        limited = can .limited;
         store-long = can .long;
         table-room = rw (ok .head .size) (native.Mathlib.Nat.le-refl (place (rows t)));
         room = rw length-sets (rw (← ok .head .size) (can .room));
@@ -76,7 +77,7 @@ module _ (t buffer store : List ℕ) (can : CanFresh t buffer store) where
       }
 
   module _ {w n : ℕ} {R marks : List ℕ} (all : AllMarked marks) (width-is : Read (width t) 256 w) (rows-is : Read (rows t) 65536 n) (copied : R ≡ begins) where
-    pub fresh-asks : CanRenew t R store marks w n
+    pub fresh-asks : CanRenew t R store marks w limit n
     fresh-asks = rw (width-is .is, rows-is .is, copied) (asked all)
 
     few : (x : ℕ) → x < rows t → x < 1024
@@ -85,65 +86,78 @@ module _ (t buffer store : List ℕ) (can : CanFresh t buffer store) where
     marks-are : (x : ℕ) → x < rows t → marked marks x ≡ true
     marks-are x l = all .all x (few x l)
 
-    done : {R′ S′ : List ℕ} {removed : ℕ} → Renewed t begins marks (width t) (rows t) R′ S′ removed → Freshly t buffer R′ S′ removed
-    unfolding freshBytes freshRows modulus result
+    done : {R′ S′ : List ℕ} {counts : Counts} → Renewed t begins marks (width t) limit (rows t) R′ S′ counts → Freshly t buffer limit R′ S′ counts
+    unfolding freshBytes freshRows freshRemoved freshCompared modulus result
     done d =
         record {
-          result = d .result ∙ bytes-are t begins store marks (width t) (rows t) (asked all) (λ x. true) (look t) (λ x e. low x) marks-are (λ x l e. absurd (true≢false e));
-          rows-are = λ x l. d .rows x l ∙ outcome-is t begins store marks (width t) (rows t) (asked all) (λ y. true) (look t) (λ y e. low y) marks-are (λ y h e. absurd (true≢false e)) x l;
-          ranges-are = λ x l word. d .ranges x l word ∙ ranges-are t begins store marks (width t) (rows t) (asked all) (λ y. true) (look t) (λ y e. low y) marks-are (λ y h e. absurd (true≢false e)) x l;
-          counted = d .counted ∙ removed-is t begins store marks (width t) (rows t) (asked all) (λ x. true) (look t) (λ x e. low x) marks-are (λ x l e. absurd (true≢false e));
+          result = d .result ∙ bytes-are t begins store marks (width t) limit (rows t) (asked all) (λ x. true) (look t) (λ x e. low x) marks-are (λ x l e. absurd (true≢false e));
+          rows-are = λ x l. d .rows x l ∙ outcome-is t begins store marks (width t) limit (rows t) (asked all) (λ y. true) (look t) (λ y e. low y) marks-are (λ y h e. absurd (true≢false e)) x l;
+          ranges-are = λ x l word. d .ranges x l word ∙ ranges-are t begins store marks (width t) limit (rows t) (asked all) (λ y. true) (look t) (λ y e. low y) marks-are (λ y h e. absurd (true≢false e)) x l;
+          removed = d .removed ∙ removed-is t begins store marks (width t) limit (rows t) (asked all) (λ x. true) (look t) (λ x e. low x) marks-are (λ x l e. absurd (true≢false e));
+          compared = d .compared ∙ compared-is t begins store marks (width t) limit (rows t) (asked all) (λ x. true) (look t) (λ x e. low x) marks-are (λ x l e. absurd (true≢false e));
         }
 
-    pub fresh-done : {R′ S′ : List ℕ} {removed : ℕ} → Renewed t R marks w n R′ S′ removed → Freshly t buffer R′ S′ removed
+    pub fresh-done : {R′ S′ : List ℕ} {counts : Counts} → Renewed t R marks w limit n R′ S′ counts → Freshly t buffer limit R′ S′ counts
     fresh-done renewed′ = done (rw (width-is .is, rows-is .is, copied) at renewed′)
 
 -- ---- run
 
 -- a fresh result is as long as the slice that it is written into
-pub fresh-length : (t buffer : List ℕ) → length (freshBytes t buffer) ≡ length buffer
+pub fresh-length : (limit : ℕ) (t buffer : List ℕ) → length (freshBytes limit t buffer) ≡ length buffer
 unfolding freshBytes
-fresh-length t buffer = length-put-rows (λ x. true) (freshRows t) (sourceAt t) (rows t) (sets buffer 0 (take HEADER t)) ∙ length-sets buffer 0 (take HEADER t)
+fresh-length limit t buffer =
+    length-put-rows (λ x. true) (freshRows limit t) (sourceAt t) (rows t) (sets buffer 0 (take HEADER t)) ∙ length-sets buffer 0 (take HEADER t)
 
-pub answer-is : (refusal row removed touched : ℕ) → _≡_ {A = Answer} (record { refusal = refusal; row = row; removed = removed; touched = touched }) (answer refusal row removed touched)
+pub answer-is :
+    (refusal row removed touched compared : ℕ) →
+    _≡_ {A = Answer} (record { refusal = refusal; row = row; removed = removed; touched = touched; compared = compared }) (answer refusal row removed touched compared)
 unfolding answer
-answer-is refusal row removed touched = refl
+answer-is refusal row removed touched compared = refl
 
-pub accepted-answer : (removed touched : ℕ) → answered accepted removed touched ≡ answer 0 0 removed touched
-unfolding answered accepted refuse isAccepted
-accepted-answer removed touched = refl
+pub accepted-answer : (removed touched compared : ℕ) → answered accepted removed touched compared ≡ answer 0 0 removed touched compared
+unfolding answered ifAccepted accepted refuse isAccepted
+accepted-answer removed touched compared = refl
 
-module _ (t buffer : List ℕ) {v : Verdict} (judged : v ≡ runVerdict t buffer) where
-  pub run-refused : {a : Answer} → (v .number ≡ 0 → ⊥) → a ≡ answer (v .number) (v .row) 0 0 → Ran t buffer a buffer
-  unfolding runAnswer runResult answered isAccepted
+-- all numbers are 0 on refusal
+pub refused-answer : (v : Verdict) (removed touched compared : ℕ) → (v .number ≡ 0 → ⊥) → answered v removed touched compared ≡ answer (v .number) (v .row) 0 0 0
+unfolding answered ifAccepted isAccepted
+refused-answer v removed touched compared h = rw (ne-eqb (v .number) 0 h)
+
+module _ (t buffer : List ℕ) (limit : ℕ) {v : Verdict} (judged : v ≡ runVerdict t buffer limit) where
+  pub run-refused : {a : Answer} → (v .number ≡ 0 → ⊥) → a ≡ answer (v .number) (v .row) 0 0 0 → Ran t buffer limit a buffer
+  unfolding runAnswer runResult isAccepted
   run-refused h e =
-      let no : eqb (runVerdict t buffer .number) 0 ≡ false = ne-eqb _ 0 (λ z. h (ap (λ (u : Verdict). u .number) judged ∙ z)) in
+      let refused : runVerdict t buffer limit .number ≡ 0 → ⊥ = λ z. h (ap (λ (u : Verdict). u .number) judged ∙ z) in
       record {
-        answer-is = e ∙ ap (λ (u : Verdict). answer (u .number) (u .row) 0 0) judged ∙ sym (rw no);
-        result-is = sym (rw no);
+        answer-is = e ∙ ap (λ (u : Verdict). answer (u .number) (u .row) 0 0 0) judged ∙ sym (refused-answer (runVerdict t buffer limit) _ _ _ refused);
+        result-is = sym (rw (ne-eqb (runVerdict t buffer limit .number) 0 refused));
       }
 
-  granted : v .number ≡ 0 → isAccepted (runVerdict t buffer) ≡ true
+  granted : v .number ≡ 0 → isAccepted (runVerdict t buffer limit) ≡ true
   granted e = accepted-is _ (ap (λ (u : Verdict). u .number) (sym judged) ∙ e)
 
-  pub run-asks : (store : List ℕ) → length store ≡ 2048 → v .number ≡ 0 → CanFresh t buffer store
-  run-asks store long e =
-      let ready : RunGranted t buffer = run-granted t buffer (granted e) in
-      record { table = ready .table; room = ready .roomy .room; long = long }
+  pub run-few : v .number ≡ 0 → limit ≤ LIMIT
+  run-few e = run-granted t buffer limit (granted e) .few
+
+  -- with this limit, or another
+  pub run-asks : (store : List ℕ) → length store ≡ 2048 → v .number ≡ 0 → {most : ℕ} → most ≤ LIMIT → CanFresh t buffer store most
+  run-asks store long e few =
+      let ready : RunGranted t buffer limit = run-granted t buffer limit (granted e) in
+      record { table = ready .table; room = ready .roomy .room; long = long; limited = few }
 
   pub run-header : v .number ≡ 0 → HEADER ≤ length t
   run-header e =
-      let ready : RunGranted t buffer = run-granted t buffer (granted e) in
+      let ready : RunGranted t buffer limit = run-granted t buffer limit (granted e) in
       rw (accepted-gives t (ready .table) .head .size) (header-below (rows t))
 
-  pub run-done : {left store : List ℕ} {removed n : ℕ} → v .number ≡ 0 → Freshly t buffer left store removed → Read (rows t) 65536 n →
-      Ran t buffer (record { refusal = 0; row = 0; removed = removed; touched = n }) left
+  pub run-done : {left store : List ℕ} {counts : Counts} {n : ℕ} → v .number ≡ 0 → Freshly t buffer limit left store counts → Read (rows t) 65536 n →
+      Ran t buffer limit (record { refusal = 0; row = 0; removed = counts .removed; touched = n; compared = counts .compared }) left
   unfolding runAnswer runResult
-  run-done {removed = removed} {n = n} e fresh few =
-      let yes : runVerdict t buffer ≡ accepted = run-granted t buffer (granted e) .verdict in
+  run-done {counts = counts} {n = n} e fresh few =
+      let yes : runVerdict t buffer limit ≡ accepted = run-granted t buffer limit (granted e) .verdict in
       record {
         answer-is =
-            answer-is 0 0 removed n ∙ ap₂ (λ (k m : ℕ). answer 0 0 k m) (fresh .counted) (few .is) ∙
-            sym (rw yes (accepted-answer (removedRows (look t) (freshRows t) (rows t)) (rows t)));
+            rw (yes, accepted-answer (freshRemoved limit t) (rows t) (freshCompared limit t), ← fresh .removed, ← few .is, ← fresh .compared)
+            (answer-is 0 0 (counts .removed) n (counts .compared));
         result-is = fresh .result ∙ sym (rw (granted e));
       }

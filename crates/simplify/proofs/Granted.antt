@@ -16,24 +16,24 @@ use Rattle.judge.proofs.Verdicts.{is-accepted, given-number, given-after, rows-
 use Rattle.judge.proofs.Granted.{EditReady, edit-ready}
 use Rattle.simplify.specs.Edit.{editVerdict}
 
-pub record EditGranted (t kept : List ℕ) (r : ℕ) (x : List ℕ) : Type 0 where
-  pub verdict : editVerdict t kept r x ≡ accepted
-  pub ready : EditReady t kept r x
+pub record EditGranted (t kept : List ℕ) (r : ℕ) (x : List ℕ) (limit : ℕ) : Type 0 where
+  pub verdict : editVerdict t kept r x limit ≡ accepted
+  pub ready : EditReady t kept r x limit
   pub rows-pass : checkRows (edited t r x) accepted ≡ accepted
   pub kept-right : keptWrong (edited t r x) (keptPart t kept) ≡ false
 
-pub edit-granted : (t kept : List ℕ) (r : ℕ) (x : List ℕ) → isAccepted (editVerdict t kept r x) ≡ true → EditGranted t kept r x
+pub edit-granted : (t kept : List ℕ) (r : ℕ) (x : List ℕ) (limit : ℕ) → isAccepted (editVerdict t kept r x limit) ≡ true → EditGranted t kept r x limit
 unfolding editVerdict keptVerdict
-edit-granted t kept r x e =
+edit-granted t kept r x limit e =
     let last : Verdict = given (first (16 when keptWrong (edited t r x) (keptPart t kept) ∷ [])) 0 accepted in
-    let z : given (first (editReasons t kept r x)) 0 (checkRows (edited t r x) last) .number ≡ 0 = is-accepted _ e in
-    let zero-first : first (editReasons t kept r x) ≡ 0 = given-number _ 0 _ z in
+    let z : given (first (editReasons t kept r x limit)) 0 (checkRows (edited t r x) last) .number ≡ 0 = is-accepted _ e in
+    let zero-first : first (editReasons t kept r x limit) ≡ 0 = given-number _ 0 _ z in
     let scanned : checkRows (edited t r x) last .number ≡ 0 = given-after _ 0 _ z in
     record {
       verdict =
           given-passes _ 0 (checkRows (edited t r x) last) zero-first ∙ rows-pass (edited t r x) last last scanned ∙
           given-passes _ 0 accepted (given-number _ 0 accepted (rows-after (edited t r x) last scanned));
-      ready = edit-ready t kept r x zero-first;
+      ready = edit-ready t kept r x limit zero-first;
       rows-pass = rows-pass (edited t r x) last accepted scanned;
       kept-right = first-none (16 when keptWrong (edited t r x) (keptPart t kept) ∷ []) refl (given-number _ 0 accepted (rows-after (edited t r x) last scanned)) .0;
     }

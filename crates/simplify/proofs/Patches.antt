@@ -1,9 +1,10 @@
 -- The rows that an edit works out anew: what the loop asks, and that what it leaves is what the public promise says.
 use Prim.Native.Nat.{ℕ, _^_, _≤_, _<_}
 use native.Mathlib.Nat.{le-refl, le-trans, lt-trans, lt-of-lt-of-le}
-use mathlib.Core.Path.{_≡_, ap, ap₂, sym, subst, _∙_}
+use mathlib.Core.Path.{_≡_, ap, sym, subst, _∙_}
+use mathlib.Core.Bool.{Bool}
 use mathlib.Core.List.{List}
-use lib.ListN.{length, replicate}
+use lib.ListN.{length, replicate, length-replicate}
 use Rattle.row.specs.Names.{HEADER, place}
 use Rattle.bytes.specs.Numbers.{Read}
 use Rattle.row.proofs.Places.{header-below, place-grows}
@@ -11,7 +12,6 @@ use Rattle.table.specs.Refusals.{width, rows}
 use Rattle.table.specs.Accepted.{Accepted}
 use Rattle.table.proofs.Accepts.{accepted-gives}
 use Rattle.term.specs.Term.{isArray}
-use Rattle.term.specs.Result.{removedRows}
 use Rattle.term.specs.WellFormed.{Fits, Names, Below, WellFormed}
 use Rattle.term.specs.Bytes.{look, edited}
 use Rattle.term.proofs.Names.{NamesBelow, names-widen}
@@ -20,18 +20,23 @@ use Rattle.term.proofs.Looked.{cut-look}
 use Rattle.term.proofs.Accepted.{accepted-formed}
 use Rattle.walks.specs.Ready.{SortsIn}
 use Rattle.marks.specs.Marks.{marked}
-use Rattle.marks.specs.Touched.{CanMark, Marked}
+use Rattle.touching.specs.Touched.{CanMark, Marked}
 use Rattle.marks.proofs.Marks.{none-words, none-marked}
 use Rattle.judge.specs.Kept.{keptPart}
 use Rattle.judge.proofs.Right.{right-sorts, right-formed}
-use Rattle.simplify.specs.Answer.{modulus, answer}
-use Rattle.simplify.specs.Renew.{CanRenew, Renewed}
-use Rattle.simplify.specs.Edit.{isTouched, editedRows, editedBytes, touchedRows}
-use Rattle.simplify.specs.Patch.{CanPatch, Patched}
+use Rattle.renew.specs.declared.Counts.{Counts}
+use Rattle.renew.specs.Renew.{CanRenew, Renewed}
+use Rattle.renew.proofs.Outcome.{bytes-are, removed-is, compared-is}
+use Rattle.simplify.specs.Answer.{modulus}
+use Rattle.simplify.specs.Edit.{isTouched, editedRows, editedBytes, editedRemoved, touchedRows, editedCompared}
+use Rattle.simplify.specs.Patch.{CanPatch, patchAnswer, Patched}
 use Rattle.simplify.proofs.FreshRun.{answer-is}
-use Rattle.simplify.proofs.Outcome.{bytes-are, removed-is}
 
-module _ (t old kept : List ℕ) (r : ℕ) (can : CanPatch t old kept r) where
+-- the store before any range is in it
+abbrev blank : List ℕ
+blank = replicate 2048 0
+
+module _ (t old kept : List ℕ) (r limit : ℕ) (can : CanPatch t old kept r limit) where
   ok : Accepted t
   ok = accepted-gives t (can .table)
 
@@ -66,12 +71,13 @@ module _ (t old kept : List ℕ) (r : ℕ) (can : CanPatch t old kept r) where
       unfolding isTouched
       marks-are = rw (rows-is .is) at (done .marks-are)
 
-      asked : (store : List ℕ) → length store ≡ 2048 → CanRenew t kept store marks (width t) (rows t)
-      asked store long =
+      asked : CanRenew t kept blank marks (width t) limit (rows t)
+      asked =
           record {
             width = ok .head .width-high;
             few = ok .head .few;
-            store-long = long;
+            limited = can .limited;
+            store-long = length-replicate {A = ℕ} 2048 0;
             table-room = rw (ok .head .size) (le-refl (place (rows t)));
             room = rw (← ok .head .size) (can .room);
             formed = accepted-formed t ok;
@@ -82,12 +88,13 @@ module _ (t old kept : List ℕ) (r : ℕ) (can : CanPatch t old kept r) where
           }
 
       -- of all rows, or of fewer
-      pub patch-asks : (store : List ℕ) → length store ≡ 2048 → {some : ℕ} → some ≤ n → CanRenew t kept store marks w some
-      patch-asks store long fewer =
-          let all : CanRenew t kept store marks w n = rw (width-is .is, rows-is .is) (asked store long) in
+      pub patch-asks : {some : ℕ} → some ≤ n → CanRenew t kept blank marks w limit some
+      patch-asks fewer =
+          let all : CanRenew t kept blank marks w limit n = rw (width-is .is, rows-is .is) asked in
           record {
             width = all .width;
             few = le-trans fewer (all .few);
+            limited = all .limited;
             store-long = all .store-long;
             table-room = le-trans (place-grows fewer) (all .table-room);
             room = le-trans (place-grows fewer) (all .room);
@@ -98,20 +105,30 @@ module _ (t old kept : List ℕ) (r : ℕ) (can : CanPatch t old kept r) where
             kept-sort = λ x l. all .kept-sort x (lt-of-lt-of-le l fewer);
           }
 
-      finish : {R S : List ℕ} {removed : ℕ} (store : List ℕ) → length store ≡ 2048 → Renewed t kept marks (width t) (rows t) R S removed →
-          (R ≡ editedBytes (edited t r old) t r kept) × (removed ≡ removedRows (look t) (editedRows (edited t r old) t r kept) (rows t))
-      unfolding editedBytes editedRows modulus
-      finish store long d = (
-        d .result ∙ bytes-are t kept store marks (width t) (rows t) (asked store long) (isTouched (edited t r old) t r) (look part) (λ x e. part-below x) marks-are (λ x l e. part-look x l),
-        d .counted ∙ removed-is t kept store marks (width t) (rows t) (asked store long) (isTouched (edited t r old) t r) (look part) (λ x e. part-below x) marks-are (λ x l e. part-look x l),
-      )
+      abbrev touched : ℕ → Bool
+      touched = isTouched (edited t r old) t r
 
-      pub patch-done : {R S : List ℕ} {removed : ℕ} (store : List ℕ) → length store ≡ 2048 → Renewed t kept marks w n R S removed →
-          Patched t old kept r (record { refusal = 0; row = 0; removed = removed; touched = count }) R
-      unfolding touchedRows isTouched
-      patch-done {removed = removed} store long d =
-          let both = finish store long (rw (width-is .is, rows-is .is) at d) in
+      module _ {R S : List ℕ} {counts : Counts} (d : Renewed t kept marks (width t) limit (rows t) R S counts) where
+        bytes-done : R ≡ editedBytes limit (edited t r old) t r kept
+        unfolding editedBytes editedRows modulus
+        bytes-done = d .result ∙ bytes-are t kept blank marks (width t) limit (rows t) asked touched (look part) (λ x e. part-below x) marks-are (λ x l e. part-look x l)
+
+        removed-done : counts .removed ≡ editedRemoved limit (edited t r old) t r kept
+        unfolding editedRemoved editedRows modulus
+        removed-done = d .removed ∙ removed-is t kept blank marks (width t) limit (rows t) asked touched (look part) (λ x e. part-below x) marks-are (λ x l e. part-look x l)
+
+        compared-done : counts .compared ≡ editedCompared limit (edited t r old) t r kept
+        unfolding editedCompared editedRows modulus
+        compared-done = d .compared ∙ compared-is t kept blank marks (width t) limit (rows t) asked touched (look part) (λ x e. part-below x) marks-are (λ x l e. part-look x l)
+
+      pub patch-done : {R S : List ℕ} {counts : Counts} → Renewed t kept marks w limit n R S counts →
+          Patched t old kept r limit (record { refusal = 0; row = 0; removed = counts .removed; touched = count; compared = counts .compared }) R
+      unfolding patchAnswer touchedRows isTouched
+      patch-done {R = R} {S = S} {counts = counts} d =
+          let whole : Renewed t kept marks (width t) limit (rows t) R S counts = rw (width-is .is, rows-is .is) at d in
           record {
-            answer-is = answer-is 0 0 removed count ∙ ap₂ (λ (k m : ℕ). answer 0 0 k m) (both .1) (rw (rows-is .is) at (done .counted));
-            kept-is = both .0;
+            answer-is =
+                answer-is 0 0 (counts .removed) count (counts .compared) ∙
+                cc (removed-done whole, rw (rows-is .is) at (done .counted), compared-done whole);
+            kept-is = bytes-done whole;
           }

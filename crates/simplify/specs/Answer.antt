@@ -1,4 +1,4 @@
--- What every public function answers: document 01, "What is answered".
+-- What every public function answers: document 01, "What is answered"; document 02, A8.
 use Prim.Native.Nat.{ℕ, _^_}
 use mathlib.Core.Bool.{cond}
 use mathlib.Core.List.{List}
@@ -11,13 +11,12 @@ use Rattle.simplify.specs.declared.Answer.{Answer}
 unfoldable pub modulus : List ℕ → ℕ
 modulus t = 2 ^ width t
 
--- the stores that a read compares at most
-abbrev pub LIMIT : ℕ
-LIMIT = 1024
+unfoldable pub answer : ℕ → ℕ → ℕ → ℕ → ℕ → Answer
+answer refusal row removed touched compared = record { refusal = refusal; row = row; removed = removed; touched = touched; compared = compared }
 
-unfoldable pub answer : ℕ → ℕ → ℕ → ℕ → Answer
-answer refusal row removed touched = record { refusal = refusal; row = row; removed = removed; touched = touched }
+-- a number that is 0 on refusal
+unfoldable pub ifAccepted : Verdict → ℕ → ℕ
+ifAccepted v number = cond (isAccepted v) number 0
 
--- removed and touched are 0 on refusal
-unfoldable pub answered : Verdict → ℕ → ℕ → Answer
-answered v removed touched = answer (v .number) (v .row) (cond (isAccepted v) removed 0) (cond (isAccepted v) touched 0)
+unfoldable pub answered : Verdict → ℕ → ℕ → ℕ → Answer
+answered v removed touched compared = answer (v .number) (v .row) (ifAccepted v removed) (ifAccepted v touched) (ifAccepted v compared)

@@ -8,19 +8,22 @@ use Rattle.range.specs.Store.{kept}
 use Rattle.table.specs.Refusals.{rows, checkTable, accepted}
 use Rattle.term.specs.Term.{isArray}
 use Rattle.term.specs.Relation.{rangeOf}
-use Rattle.term.specs.Result.{removedRows}
 use Rattle.term.specs.Bytes.{look}
+use Rattle.judge.specs.Run.{LIMIT}
+use Rattle.renew.specs.declared.Counts.{Counts}
 use Rattle.simplify.specs.Answer.{modulus}
-use Rattle.simplify.specs.Run.{freshRows, freshBytes}
+use Rattle.simplify.specs.Run.{freshRows, freshBytes, freshRemoved, freshCompared}
 
--- an accepted table, and room for its result and for ranges
-pub record CanFresh (t buffer store : List ℕ) : Type 0 where
+-- an accepted table, room for its result and for ranges, and a limit
+pub record CanFresh (t buffer store : List ℕ) (limit : ℕ) : Type 0 where
   pub table : checkTable t ≡ accepted
   pub room : length t ≤ length buffer
   pub long : length store ≡ 2048
+  pub limited : limit ≤ LIMIT
 
-pub record Freshly (t buffer left store : List ℕ) (removed : ℕ) : Type 0 where
-  pub result : left ≡ freshBytes t buffer
-  pub rows-are : (x : ℕ) → x < rows t → look left x ≡ freshRows t x
-  pub ranges-are : (x : ℕ) → x < rows t → isArray (look t x) ≡ false → kept store x ≡ rangeOf (modulus t) (freshRows t) x
-  pub counted : removed ≡ removedRows (look t) (freshRows t) (rows t)
+pub record Freshly (t buffer : List ℕ) (limit : ℕ) (left store : List ℕ) (counts : Counts) : Type 0 where
+  pub result : left ≡ freshBytes limit t buffer
+  pub rows-are : (x : ℕ) → x < rows t → look left x ≡ freshRows limit t x
+  pub ranges-are : (x : ℕ) → x < rows t → isArray (look t x) ≡ false → kept store x ≡ rangeOf (modulus t) (freshRows limit t) x
+  pub removed : counts .removed ≡ freshRemoved limit t
+  pub compared : counts .compared ≡ freshCompared limit t

@@ -1,12 +1,8 @@
 // Run and edit over lent bytes; and, for the tools that stand on a fresh run, the run itself and the answer of a refusal.
-mod copying;
 mod editing;
-mod renew;
 mod running;
 
-pub use copying::copy;
 pub use editing::edit;
-pub use renew::LIMIT;
 pub use running::fresh;
 pub use running::refused;
 pub use running::run;
@@ -17,4 +13,5 @@ pub struct Answer {
     pub row: u64,
     pub removed: u64,
     pub touched: u64,
+    pub compared: u64,
 }

@@ -27,10 +27,10 @@ fn relation_number(relation: Relation) -> u64
 }
 
 #[no_mangle]
-pub extern "C" fn stezkoun_run(table: &[u8], result: &mut [u8]) -> Answer
-    ensures { λ answer. ⌜ Ran (now (table .entry)) (now (result .entry)) answer (now (result .exit)) ⌝ }
+pub extern "C" fn stezkoun_run(table: &[u8], result: &mut [u8], limit: u64) -> Answer
+    ensures { λ answer. ⌜ Ran (now (table .entry)) (now (result .entry)) limit answer (now (result .exit)) ⌝ }
 {
-    simplify::run(table, result)
+    simplify::run(table, result, limit)
 }
 
 #[no_mangle]
@@ -39,10 +39,11 @@ pub extern "C" fn stezkoun_edit(
     kept: &mut [u8],
     row: u64,
     replacement: &[u8],
+    limit: u64,
 ) -> Answer
-    ensures { λ answer. ⌜ Edited (now (table .entry)) (now (kept .entry)) row (now (replacement .entry)) answer (now (table .exit)) (now (kept .exit)) ⌝ }
+    ensures { λ answer. ⌜ Edited (now (table .entry)) (now (kept .entry)) row (now (replacement .entry)) limit answer (now (table .exit)) (now (kept .exit)) ⌝ }
 {
-    simplify::edit(table, kept, row, replacement)
+    simplify::edit(table, kept, row, replacement, limit)
 }
 
 #[no_mangle]

@@ -15,7 +15,7 @@ use Rattle.term.specs.declared.Reason.{Reason}
 use Rattle.term.specs.declared.Reason.the-variants.{SamePlace, Offsets, Separate, Undecided}
 use Rattle.term.specs.declared.Met.{Met}
 use Rattle.term.specs.Term.{Term, const, var, shift, sum, diff, neg, read, fresh, write, termOf, rowOf}
-use Rattle.term.specs.Walk.{Walk, found, passed, undecided, ended, step, walkAt, walk}
+use Rattle.term.specs.Walk.{Walk, found, passed, undecided, ended, step, walkAt, walk, compared}
 use Rattle.term.specs.Reason.{reason, knownBy, indexOf, meets, met}
 use Rattle.term.proofs.Rows.{term-row}
 use Rattle.term.proofs.Reasons.{related-reason}
@@ -38,13 +38,6 @@ pub data Follows (f : ℕ → Term) (g : ℕ → Range) (i : ℕ) : ℕ → ℕ 
   ends : {left m : ℕ} → (rowOf (f m) .kind ≡ WRITE → ⊥) → Follows f g i (suc left) m [] (ended m)
   -- with no comparison left: stop
   spent : {m : ℕ} → Follows f g i zero m [] (ended m)
-
--- the number of comparisons that a walk made
-unfoldable pub compared : Walk → ℕ
-compared (found m c) = 1
-compared (passed m onward) = suc (compared onward)
-compared (undecided m) = 1
-compared (ended m) = 0
 
 -- of each store listed
 abbrev pub Each : (Met → Type 0) → List Met → Type 0

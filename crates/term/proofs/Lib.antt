@@ -7,6 +7,7 @@ pub mod Local
 pub mod Ranges
 pub mod Reasons
 pub mod Follows
+pub mod Compared
 pub mod Renewed
 pub mod Touched
 pub mod Leads

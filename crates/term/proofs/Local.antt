@@ -12,10 +12,11 @@ use Rattle.term.specs.declared.Relation.the-variants.{Same, Apart, Unkno
 use Rattle.term.specs.Term.{Term, const, var, shift, sum, diff, neg, read, fresh, write}
 use Rattle.term.specs.Base.{Base, nothing, one, sumOf, difference, negative, baseOf, offsetOf, written, base, offset, openRow, openOffset, openTo, openBy, plainOf, plain}
 use Rattle.term.specs.Relation.{Rests, rangeBy, rangeDown, rangeOf, related}
-use Rattle.term.specs.Walk.{Walk, found, passed, undecided, ended, step, walkAt, walk}
+use Rattle.term.specs.Walk.{Walk, found, passed, undecided, ended, step, walkAt, walk, compared}
 use Rattle.term.specs.Rule.{shiftRule, sumRule, negBy, negRule, diffRule, readBy, readRule, skipBy, skipAt, writeRule, rule}
 use Rattle.term.specs.Seen.{firstRow, isLater, byName, seen}
 use Rattle.term.specs.Result.{ruleAt, simplified}
+use Rattle.term.specs.Compared.{comparedBy}
 use Rattle.term.specs.WellFormed.{Names}
 use Rattle.term.proofs.Names.{names-widen, names-rest}
 use Rattle.term.proofs.Inside.{BaseIn, WalkIn, base-in, walk-in}
@@ -200,6 +201,19 @@ module _
       rule-local M limit (read a b) n = read-rule-local M limit a b (n .0) (n .1)
       rule-local M limit fresh n = refl
       rule-local M limit (write a b c) n = write-rule-local a b c (n .0) (n .1) (n .2)
+
+      -- the stores that a READ compares
+      pub compared-local : (limit : ℕ) (t : Term) → Names U t → comparedBy limit f g t ≡ comparedBy limit f′ g′ t
+      unfolding comparedBy
+      compared-local limit (const k) n = refl
+      compared-local limit (var name k h) n = refl
+      compared-local limit (shift a k) n = refl
+      compared-local limit (sum a b k) n = refl
+      compared-local limit (diff a b k) n = refl
+      compared-local limit (neg a k) n = refl
+      compared-local limit (read m i) n = ap compared (walk-local i limit m (n .1) (n .0))
+      compared-local limit fresh n = refl
+      compared-local limit (write a b c) n = refl
 
       pub rule-at-local : (M limit : ℕ) (t : ℕ → Term) (x : ℕ) → Names U (seen t x) → ruleAt M limit t f g x ≡ ruleAt M limit t f′ g′ x
       unfolding ruleAt seen byName

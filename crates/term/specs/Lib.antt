@@ -7,6 +7,7 @@ pub mod Walk
 pub mod Reason
 pub mod Rule
 pub mod Result
+pub mod Compared
 pub mod Leads
 pub mod WellFormed
 pub mod Bytes

@@ -35,3 +35,10 @@ walkAt f g i m onward (write a b c) = step m a c onward (related f g b i)
 unfoldable pub walk : (ℕ → Term) → (ℕ → Range) → ℕ → ℕ → ℕ → Walk
 walk f g i zero m = ended m
 walk f g i (suc left) m = walkAt f g i m (walk f g i left) (f m)
+
+-- how many stores a walk compared: the one with the index wanted, each one passed, and the one of which neither is known
+unfoldable pub compared : Walk → ℕ
+compared (found m c) = 1
+compared (passed m onward) = suc (compared onward)
+compared (undecided m) = 1
+compared (ended m) = 0

@@ -123,7 +123,7 @@ fn put(t: &mut [u8; ROOM], r: usize, x: Row, source: u64) {
     if r > 1024 {
         return;
     }
-    Row::put(t, r, x, source);
+    putting::put(t, r, x, source);
 }
 
 // Makes every row a CONST 0, recorded at the instruction of its own number.

@@ -20,7 +20,7 @@ use Rattle.term.specs.declared.Relation.{Relation}
 use Rattle.term.specs.declared.Relation.the-variants.{Same, Apart, Unknown}
 use Rattle.term.specs.Relation.{related}
 use Rattle.walks.specs.declared.relation.Index.{Index}
-use Rattle.walks.specs.declared.walking.Step.the-variants.{Hit, Next, Stop}
+use Rattle.walks.specs.declared.walking.Step.the-variants.{Hit, Next, Stay, End}
 use Rattle.walks.specs.Walked.{stepBy, stepAt}
 use Rattle.walks.specs.Ready.{NamesBelow, Walking, Following, Comparing}
 use Rattle.walks.proofs.Terms.{term-write, term-case}
@@ -83,7 +83,7 @@ module _ (R S : List ℕ) (r i : ℕ) (j : Index) (m : ℕ) (given : Walking R S
     has-index = ap (λ (u : Range). u .hi) (loaded ∙ follow .links .stores m a b c (given .below) e)
 
   -- no row where row m is no store
-  ends-at : (g : ℕ → Range) (t : Term) → look R m ≡ t → MOST ≤ x .lo → Stop ≡ stepAt (look R) g i t
+  ends-at : (g : ℕ → Range) (t : Term) → look R m ≡ t → MOST ≤ x .lo → End ≡ stepAt (look R) g i t
   unfolding stepAt
   ends-at g (const k) e h = refl
   ends-at g (var name k u) e h = refl
@@ -96,7 +96,7 @@ module _ (R S : List ℕ) (r i : ℕ) (j : Index) (m : ℕ) (given : Walking R S
   ends-at g (write a b c) e h =
       absurd (omega (arith, has-array a b c e, named a b c e .0, given .below, given .rows .few))
 
-  pub step-ends : (g : ℕ → Range) → MOST ≤ x .lo → Stop ≡ stepAt (look R) g i (look R m)
+  pub step-ends : (g : ℕ → Range) → MOST ≤ x .lo → End ≡ stepAt (look R) g i (look R m)
   step-ends g h = ends-at g (look R m) refl h
 
   -- else row m is the store that it has
@@ -150,6 +150,6 @@ module _ (R S : List ℕ) (r i : ℕ) (j : Index) (m : ℕ) (given : Walking R S
       unfolding stepBy
       step-apart e = sym (step-by Apart e)
 
-      pub step-unknown : k ≡ Unknown → Stop ≡ stepAt (look R) g i (look R m)
+      pub step-unknown : k ≡ Unknown → Stay ≡ stepAt (look R) g i (look R m)
       unfolding stepBy
       step-unknown e = sym (step-by Unknown e)

@@ -1,5 +1,6 @@
--- The walk, step by step: what is left to walk gives the whole walk's landing. Assumes nothing.
+-- The walk, step by step: what is left to walk, behind the stores compared, gives the whole walk. Assumes nothing.
 use Prim.Native.Nat.{ℕ, suc, _+_, _-_, _≤_, _<_}
+use native.Mathlib.Nat.{add-zero}
 use native.Mathlib.Omega.{arith}
 use mathlib.Core.Path.{_≡_, refl, sym, ap, _∙_}
 use mathlib.Core.Bool.{true}
@@ -12,59 +13,64 @@ use Rattle.term.specs.Bytes.{look}
 use Rattle.term.specs.declared.Relation.{Relation}
 use Rattle.term.specs.declared.Relation.the-variants.{Same, Apart, Unknown}
 use Rattle.term.specs.Relation.{related}
-use Rattle.term.specs.Walk.{Walk, found, passed, undecided, ended, step, walkAt, walk}
+use Rattle.term.specs.Walk.{Walk, found, passed, undecided, ended, step, walkAt, walk, compared}
 use Rattle.term.proofs.Inside.{WalkIn, walk-in}
 use Rattle.walks.specs.declared.relation.Index.{Index}
 use Rattle.walks.specs.declared.walking.Step.{Step}
-use Rattle.walks.specs.declared.walking.Step.the-variants.{Hit, Next, Stop}
+use Rattle.walks.specs.declared.walking.Step.the-variants.{Hit, Next, Stay, End}
 use Rattle.walks.specs.declared.walking.Landing.{Landing}
 use Rattle.walks.specs.declared.walking.Landing.the-variants.{Found, Stopped}
-use Rattle.walks.specs.Walked.{stepBy, stepAt, landing}
+use Rattle.walks.specs.declared.walking.Walked.{Walked}
+use Rattle.walks.specs.Walked.{stepBy, stepAt, landing, walked, walkedBy}
 use Rattle.walks.specs.Ready.{NamesBelow, Standing, Walking, Following}
 use Rattle.walks.proofs.Reach.{rows-closed}
 
 -- ---- over lookups
 
-landBy : ℕ → (ℕ → Landing) → Step → Landing
-landBy m onward (Hit c) = Found c
-landBy m onward (Next a) = onward a
-landBy m onward Stop = Stopped m
+-- a walk on behind one store more
+abbrev further : Walked → Walked
+further v = walked (v .landing) (suc (v .compared))
 
-land-known : (m a c : ℕ) (onward : ℕ → Walk) (k : Relation)
-    → landing (step m a c onward k) ≡ landBy m (λ n. landing (onward n)) (stepBy a c k)
-unfolding step landing landBy stepBy
-land-known m a c onward Same = refl
-land-known m a c onward Apart = refl
-land-known m a c onward Unknown = refl
+walkBy : ℕ → (ℕ → Walked) → Step → Walked
+walkBy m onward (Hit c) = walked (Found c) 1
+walkBy m onward (Next a) = further (onward a)
+walkBy m onward Stay = walked (Stopped m) 1
+walkBy m onward End = walked (Stopped m) 0
+
+walk-known : (m a c : ℕ) (onward : ℕ → Walk) (k : Relation) → walkedBy (step m a c onward k) ≡ walkBy m (λ n. walkedBy (onward n)) (stepBy a c k)
+unfolding step walkedBy landing compared walkBy stepBy
+walk-known m a c onward Same = refl
+walk-known m a c onward Apart = refl
+walk-known m a c onward Unknown = refl
 
 module _ (f : ℕ → Term) (g : ℕ → Range) (i : ℕ) where
-  land-at : (m : ℕ) (onward : ℕ → Walk) (t : Term)
-      → landing (walkAt f g i m onward t) ≡ landBy m (λ n. landing (onward n)) (stepAt f g i t)
-  unfolding walkAt landing landBy stepAt
-  land-at m onward (const k) = refl
-  land-at m onward (var name k h) = refl
-  land-at m onward (shift a k) = refl
-  land-at m onward (sum a b k) = refl
-  land-at m onward (diff a b k) = refl
-  land-at m onward (neg a k) = refl
-  land-at m onward (read a b) = refl
-  land-at m onward fresh = refl
-  land-at m onward (write a b c) = land-known m a c onward (related f g b i)
+  walk-told : (m : ℕ) (onward : ℕ → Walk) (t : Term) → walkedBy (walkAt f g i m onward t) ≡ walkBy m (λ n. walkedBy (onward n)) (stepAt f g i t)
+  unfolding walkAt walkedBy landing compared walkBy stepAt
+  walk-told m onward (const k) = refl
+  walk-told m onward (var name k h) = refl
+  walk-told m onward (shift a k) = refl
+  walk-told m onward (sum a b k) = refl
+  walk-told m onward (diff a b k) = refl
+  walk-told m onward (neg a k) = refl
+  walk-told m onward (read a b) = refl
+  walk-told m onward fresh = refl
+  walk-told m onward (write a b c) = walk-known m a c onward (related f g b i)
 
-  land-step : (left m : ℕ) → landing (walk f g i (suc left) m) ≡ landBy m (λ n. landing (walk f g i left n)) (stepAt f g i (f m))
+  walk-step : (left m : ℕ) → walkedBy (walk f g i (suc left) m) ≡ walkBy m (λ n. walkedBy (walk f g i left n)) (stepAt f g i (f m))
   unfolding walk
-  land-step left m = land-at m (walk f g i left) (f m)
+  walk-step left m = walk-told m (walk f g i left) (f m)
 
-  land-spent : (m : ℕ) → landing (walk f g i 0 m) ≡ Stopped m
-  unfolding walk landing
-  land-spent m = refl
+  walk-none : (m : ℕ) → walkedBy (walk f g i 0 m) ≡ walked (Stopped m) 0
+  unfolding walk walkedBy landing compared
+  walk-none m = refl
 
 -- ---- a step leads to rows below, and a walk ends at one
 
 abbrev StepBelow : ℕ → Step → Type 0
 StepBelow m (Hit c) = c < m
 StepBelow m (Next a) = a < m
-StepBelow m Stop = Unit {0}
+StepBelow m Stay = Unit {0}
+StepBelow m End = Unit {0}
 
 step-known : (m a c : ℕ) (k : Relation) → a < m → c < m → StepBelow m (stepBy a c k)
 unfolding stepBy
@@ -88,7 +94,8 @@ step-below f g i m (write a b c) h = step-known m a c (related f g b i) (h .0) (
 abbrev StepArray : (ℕ → Term) → Step → Type 0
 StepArray f (Hit c) = Unit {0}
 StepArray f (Next a) = isArray (f a) ≡ true
-StepArray f Stop = Unit {0}
+StepArray f Stay = Unit {0}
+StepArray f End = Unit {0}
 
 array-known : (f : ℕ → Term) (a c : ℕ) (k : Relation) → isArray (f a) ≡ true → StepArray f (stepBy a c k)
 unfolding stepBy
@@ -126,9 +133,13 @@ lands-below R g r i limit m rows l =
 
 -- ---- the loop
 
+-- a walk on behind so many stores
+abbrev pub after : ℕ → Walked → Walked
+after number v = walked (v .landing) (number + v .compared)
+
 -- at array row n, with `compared` stores behind
 pub record Onward (R S : List ℕ) (limit r i m n compared : ℕ) : Type 0 where
-  pub rest : landing (walk (look R) (kept S) i (limit - compared) n) ≡ landing (walk (look R) (kept S) i limit m)
+  pub rest : after compared (walkedBy (walk (look R) (kept S) i (limit - compared) n)) ≡ walkedBy (walk (look R) (kept S) i limit m)
   pub below : n < r
   pub array : isArray (look R n) ≡ true
   pub few : compared ≤ limit
@@ -137,7 +148,7 @@ module _ (R S : List ℕ) (limit r i : ℕ) (j : Index) (m : ℕ) (given : Walki
   pub walk-begins : Onward R S limit r i m m 0
   walk-begins =
       record {
-        rest = ap (λ (k : ℕ). landing (walk (look R) (kept S) i k m)) (omega arith);
+        rest = ap (walked _) (omega arith) ∙ ap (λ (k : ℕ). walkedBy (walk (look R) (kept S) i k m)) (omega arith);
         below = given .below;
         array = follow .array;
         few = omega arith;
@@ -150,24 +161,28 @@ module _ (R S : List ℕ) (limit r i : ℕ) (j : Index) (m : ℕ) (given : Walki
     pub walk-follows : Following R S r n
     walk-follows = record { links = follow .links; sorted = follow .sorted; array = inv .array }
 
-    pub walk-spent : limit ≤ compared → Stopped n ≡ landing (walk (look R) (kept S) i limit m)
-    walk-spent h =
+    pub walk-spent : {v : Walked} → limit ≤ compared → v ≡ walked (Stopped n) compared → v ≡ walkedBy (walk (look R) (kept S) i limit m)
+    walk-spent h e =
         let none : limit - compared ≡ 0 = omega (arith, inv .few) in
-        sym (land-spent (look R) (kept S) i n) ∙ rw none at (inv .rest)
+        e ∙ ap (walked (Stopped n)) (sym (add-zero compared)) ∙ ap (after compared) (sym (walk-none (look R) (kept S) i n)) ∙ rw none at (inv .rest)
 
     module _ (s : Step) (more : compared < limit) (told : s ≡ stepAt (look R) (kept S) i (look R n)) where
-      one-more : landBy n (λ a. landing (walk (look R) (kept S) i (limit - (compared + 1)) a)) s ≡ landing (walk (look R) (kept S) i limit m)
+      one-more : after compared (walkBy n (λ a. walkedBy (walk (look R) (kept S) i (limit - (compared + 1)) a)) s) ≡ walkedBy (walk (look R) (kept S) i limit m)
       one-more =
           let left : limit - compared ≡ suc (limit - (compared + 1)) = omega arith in
-          rw (← (rw left at (inv .rest)), told) (sym (land-step (look R) (kept S) i (limit - (compared + 1)) n))
+          rw (← (rw left at (inv .rest)), told) (ap (after compared) (sym (walk-step (look R) (kept S) i (limit - (compared + 1)) n)))
 
-      pub walk-hits : (c : ℕ) → s ≡ Hit c → Found c ≡ landing (walk (look R) (kept S) i limit m)
-      unfolding landBy
-      walk-hits c e = rw e at one-more
+      pub walk-hits : (c : ℕ) {v : Walked} → s ≡ Hit c → v ≡ walked (Found c) (compared + 1) → v ≡ walkedBy (walk (look R) (kept S) i limit m)
+      unfolding walkBy
+      walk-hits c e k = k ∙ rw e at one-more
 
-      pub walk-stops : s ≡ Stop → Stopped n ≡ landing (walk (look R) (kept S) i limit m)
-      unfolding landBy
-      walk-stops e = rw e at one-more
+      pub walk-stays : {v : Walked} → s ≡ Stay → v ≡ walked (Stopped n) (compared + 1) → v ≡ walkedBy (walk (look R) (kept S) i limit m)
+      unfolding walkBy
+      walk-stays e k = k ∙ rw e at one-more
+
+      pub walk-ends : {v : Walked} → s ≡ End → v ≡ walked (Stopped n) compared → v ≡ walkedBy (walk (look R) (kept S) i limit m)
+      unfolding walkBy
+      walk-ends e k = k ∙ ap (walked (Stopped n)) (sym (add-zero compared)) ∙ rw e at one-more
 
       next-below : (a : ℕ) → s ≡ Next a → a < n
       next-below a e =
@@ -178,10 +193,10 @@ module _ (R S : List ℕ) (limit r i : ℕ) (j : Index) (m : ℕ) (given : Walki
           rw (sym told ∙ e) at (step-array (look R) (kept S) i (look R n) (follow .sorted .sorts n (inv .below)))
 
       pub walk-goes-on : (a : ℕ) → s ≡ Next a → Onward R S limit r i m a (compared + 1)
-      unfolding landBy
+      unfolding walkBy
       walk-goes-on a e =
           record {
-            rest = rw e at one-more;
+            rest = ap (walked _) (omega arith) ∙ rw e at one-more;
             below = omega (arith, next-below a e, inv .below);
             array = next-array a e;
             few = omega arith;

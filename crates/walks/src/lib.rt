@@ -15,4 +15,5 @@ pub use value::plain_name;
 pub use value::same_base;
 pub use value::value_at;
 pub use walking::Landing;
+pub use walking::Walked;
 pub use walking::walk;

@@ -1,7 +1,8 @@
 //! Simplifies table P1, asks the result about pairs of rows and why its last read moved, widens its
-//! variable and sees what becomes of the result and the answers.
+//! variable and sees what becomes of the result and the answers, and keeps all reads from being
+//! compared with stores.
 
-use stezkoun::Refusal;
+use stezkoun::{Done, Refusal, LIMIT};
 
 const HEADER: usize = 6;
 const ROW: usize = 30;
@@ -32,6 +33,11 @@ fn print_rows(table: &[u8]) {
     }
 }
 
+fn print_done(call: &str, done: Done) {
+    let Done { removed, touched, compared } = done;
+    println!("{call}: removed {removed} touched {touched} compared {compared}");
+}
+
 /// Asks any number of questions over one result; none runs anything.
 fn print_relations(table: &[u8], result: &[u8]) -> Result<(), Refusal> {
     for (first, second) in [(2, 6), (0, 2), (2, 7)] {
@@ -45,28 +51,26 @@ fn main() -> Result<(), Refusal> {
     let mut table = include_bytes!("../../p1.table").to_vec();
     let mut result = vec![0; table.len()];
 
-    let done = stezkoun::run(&table, &mut result)?;
-    println!("run: removed {} touched {}", done.removed, done.touched);
+    print_done("run", stezkoun::run(&table, &mut result, LIMIT)?);
     print_rows(&result);
 
     print_relations(&table, &result)?;
 
     let mut room = [0; 512];
     let (done, list) = stezkoun::why(&table, &mut result, 8, &mut room)?;
-    println!("why: removed {} touched {}", done.removed, done.touched);
+    print_done("why", done);
     print!("{}", String::from_utf8_lossy(list));
 
     // With the pointer anywhere from 0, as instruction 3 has it, row 2 may be 7, and the last read no
-    // longer passes the store.
+    // longer passes the store. The limit is the one of the run.
     let wide = row(VAR, [0; 3], [0, 250], 3);
-    let done = stezkoun::edit(&mut table, &mut result, 0, &wide)?;
-    println!("edit: removed {} touched {}", done.removed, done.touched);
+    print_done("edit", stezkoun::edit(&mut table, &mut result, 0, &wide, LIMIT)?);
     print_rows(&result);
     print_relations(&table, &result)?;
 
     // A word in the place of the memory: row 4 would write into it.
     let word = row(CONST, [0; 3], [0; 2], 3);
-    match stezkoun::edit(&mut table, &mut result, 1, &word) {
+    match stezkoun::edit(&mut table, &mut result, 1, &word, LIMIT) {
         Err(refusal) => println!("refused: {refusal:?}"),
         Ok(_) => unreachable!("a WRITE on a word is refused"),
     }
@@ -74,6 +78,14 @@ fn main() -> Result<(), Refusal> {
     match stezkoun::ask(&table, &result, 1, 4) {
         Err(refusal) => println!("refused: {refusal:?}"),
         Ok(_) => unreachable!("an array row is refused"),
+    }
+
+    // With the limit 0 both reads stay where they are.
+    print_done("run, limit 0", stezkoun::run(&table, &mut result, 0)?);
+    print_rows(&result);
+    match stezkoun::run(&table, &mut result, LIMIT + 1) {
+        Err(refusal) => println!("refused: {refusal:?}"),
+        Ok(_) => unreachable!("a limit above 1,024 is refused"),
     }
     Ok(())
 }

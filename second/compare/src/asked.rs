@@ -1,10 +1,10 @@
-//! Questions small enough to be answered by hand, and every two faults of one at once.
+//! Questions small enough to be answered by hand.
 
 use crate::pair::{hex, Pair};
-use crate::paper::{p1, refused, table};
-use second::bytes::{place, KIND, REFERENCES, ROW, VALUES};
+use crate::paper::{accepted, p1, refused, table};
+use second::bytes::{place, ROW};
 use second::text::compared;
-use second::{Answer, Relation};
+use second::{Relation, HIGHEST_LIMIT};
 use stezkoun::numbers;
 
 pub fn cases(pair: &mut Pair) {
@@ -12,7 +12,6 @@ pub fn cases(pair: &mut Pair) {
     lines(pair);
     as_they_stand(pair);
     many_of_one_result(pair);
-    orders_of_refusals(pair);
     rows_of_arrays(pair);
 }
 
@@ -22,7 +21,7 @@ fn rows(text: &str) -> Vec<u8> {
 
 fn own(table: &[u8]) -> Vec<u8> {
     let mut result = vec![0; table.len()];
-    second::run(table, &mut result);
+    second::run(table, &mut result, HIGHEST_LIMIT);
     result
 }
 
@@ -64,7 +63,7 @@ fn as_they_stand(pair: &mut Pair) {
     let mut tells = |text: &str, kept: &str, numbers: [u64; 2], relation: Relation| {
         let [table, kept] = [text, kept].map(table);
         let comparison = pair.ask(&table, &kept, numbers);
-        let right = comparison.answer == answered() && comparison.relation() == relation;
+        let right = comparison.answer == accepted(0, 0, 0) && comparison.relation() == relation;
         pair.expect(right, || format!("{comparison:?} for rows {numbers:?} of {}", hex(&kept)));
     };
     // A SHIFT of a SHIFT or of a CONST is not followed to its base; its range is.
@@ -113,10 +112,6 @@ fn as_they_stand(pair: &mut Pair) {
     tells(named, other, [2, 3], Apart);
 }
 
-fn answered() -> Answer {
-    Answer { refusal: 0, row: 0, removed: 0, touched: 0 }
-}
-
 /// All pairs of rows of P1 and of no row, again and again over buffers that were lent once; and its
 /// result, which is a table and its own result, lent as both.
 fn many_of_one_result(pair: &mut Pair) {
@@ -129,97 +124,13 @@ fn many_of_one_result(pair: &mut Pair) {
             let expected = second::ask(table, kept, first, second);
             let alike = given.relation == expected.relation() as u64
                 && given.answer.refusal == expected.answer.refusal
-                && given.answer.row == expected.answer.row;
+                && given.answer.row == expected.answer.row
+                && given.answer.compared == 0;
             pair.cases += 1;
             pair.expect(alike, || format!("{given:?} and {expected:?} for rows {first}, {second}"));
         }
     }
     pair.expect(lent == table && room == result, || "a question wrote into its buffers".into());
-}
-
-/// A question with nothing wrong in it.
-struct Question {
-    table: Vec<u8>,
-    kept: Vec<u8>,
-    numbers: [u64; 2],
-}
-
-impl Question {
-    fn sound() -> Question {
-        let table = rows(
-            "CONST 1; FRESH; CONST 2; VAR 3 0 9; FRESH; VAR 3 0 9; VAR 5 9; READ 1 0; SHIFT 0 1; \
-            SHIFT 0 1; CONST 3; CONST 4; CONST 5",
-        );
-        Question { kept: own(&table), table, numbers: [0, 2] }
-    }
-
-    fn byte_of(&mut self, row: usize, at: usize, byte: u8) {
-        self.table[place(row)][at] = byte;
-    }
-
-    fn keep(&mut self, row: usize, text: &str) {
-        self.kept[place(row)].copy_from_slice(&rows(text)[place(0)]);
-    }
-}
-
-/// A fault, and the refusal and row that it has.
-type Fault = (fn(&mut Question), [u64; 2]);
-
-/// In their order. Most faults of rows are in a row of their own, those of higher numbers first.
-const FAULTS: [Fault; 32] = [
-    (|q| q.table.truncate(5), [1, 0]),
-    (|q| q.table[1] = 0, [2, 0]),
-    (|q| q.table[3] = 1, [2, 0]),
-    (|q| q.table[2] = 0, [3, 0]),
-    (|q| q.table[2] = 65, [3, 0]),
-    (|q| q.table[5] = 5, [4, 0]),
-    (|q| q.table.push(0), [5, 0]),
-    (|q| q.kept.truncate(q.table.len() - 1), [6, 0]),
-    (|q| q.kept.clear(), [6, 0]),
-    (|q| q.numbers[0] = 13, [7, 0]),
-    (|q| q.numbers[0] = 1 << 32, [7, 0]),
-    (|q| q.numbers[1] = 14, [7, 0]),
-    (|q| q.numbers[1] = u64::MAX, [7, 0]),
-    (|q| q.byte_of(5, VALUES[1], 8), [18, 5]),
-    (|q| q.byte_of(6, VALUES[0], 10), [15, 6]),
-    (|q| q.byte_of(7, REFERENCES[0], 0), [14, 7]),
-    (|q| q.byte_of(8, REFERENCES[0], 1), [14, 8]),
-    (|q| q.byte_of(9, REFERENCES[0], 9), [13, 9]),
-    (|q| q.byte_of(10, VALUES[0] + 1, 1), [12, 10]),
-    (|q| q.byte_of(11, REFERENCES[0], 1), [11, 11]),
-    (|q| q.byte_of(12, 0, 0), [9, 12]),
-    (|q| q.byte_of(12, KIND, 10), [10, 12]),
-    (|q| q.kept[0] = 0, [16, 0]),
-    (|q| q.kept[4] = 12, [16, 0]),
-    (|q| q.kept[2] = 9, [16, 0]),
-    (|q| q.kept[place(10)][0] = 0, [16, 0]),
-    (|q| q.keep(5, "VAR 3 0 8"), [16, 0]),
-    (|q| q.keep(12, "FRESH"), [16, 0]),
-    (|q| q.keep(4, "CONST 9"), [16, 0]),
-    (|q| q.numbers[0] = 4, [14, 4]),
-    (|q| q.numbers[1] = 1, [14, 1]),
-    (|q| q.numbers[1] = 4, [14, 4]),
-];
-
-/// Of two faults the earlier one is told.
-fn orders_of_refusals(pair: &mut Pair) {
-    let Question { table, kept, numbers } = Question::sound();
-    let sound = pair.ask(&table, &kept, numbers);
-    pair.expect(sound.answer == answered(), || format!("{sound:?} for what is sound"));
-    for (later, (put_later, _)) in FAULTS.iter().enumerate() {
-        for (put, [number, row]) in &FAULTS[..=later] {
-            let mut question = Question::sound();
-            put_later(&mut question);
-            put(&mut question);
-            let Question { table, kept, numbers } = question;
-            let comparison = pair.ask(&table, &kept, numbers);
-            let right = comparison.answer == refused(*number, *row)
-                && comparison.relation() == Relation::NotKnown;
-            pair.expect(right, || {
-                format!("{comparison:?}, not {number}, for rows {numbers:?} of {}", hex(&table))
-            });
-        }
-    }
 }
 
 /// Rows that name arrays: the first number first, whichever row is lower; and what is not below n.

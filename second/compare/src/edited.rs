@@ -3,24 +3,27 @@
 use crate::leads::{firsts, worked_out_anew};
 use crate::meaning::decoded;
 use crate::pair::{hex, Pair};
+use crate::recount::Left;
 use second::bytes::{place, row_bytes, sources};
-use second::{Ref, Row};
+use second::{Answer, Ref, Row};
 
-/// An accepted edit: the table before it, as far as it is known, and what was lent before and after.
+/// An accepted edit: the table before it, as far as it is known, what was lent before and after, and
+/// the answer.
 pub struct Edited<'e> {
     pub row: Ref,
     pub rows_before: &'e [Row],
     pub table: &'e [u8],
     pub kept_before: &'e [u8],
     pub kept: &'e [u8],
-    pub touched: u64,
+    pub limit: u64,
+    pub answer: Answer,
 }
 
 impl Edited<'_> {
-    /// With the table's own kept result.
+    /// With the table's own kept result, made with the same limit.
     pub fn is_a_fresh_run(&self, pair: &mut Pair) {
         let mut fresh = self.kept_before.to_vec();
-        second::run(self.table, &mut fresh);
+        second::run(self.table, &mut fresh, self.limit);
         pair.expect(fresh == self.kept, || self.described("is not a fresh run"));
     }
 
@@ -28,7 +31,8 @@ impl Edited<'_> {
         worked_out_anew(self.rows_before, &decoded(self.table).1, self.row)
     }
 
-    /// With any kept result: the rows worked out anew are counted, and all others keep their bytes.
+    /// With any kept result: the rows worked out anew are counted, and the stores that the reads among
+    /// them are compared with, and all other rows keep their bytes.
     pub fn leaves_others(&self, pair: &mut Pair) {
         let anew = self.anew();
         for row in (0..anew.len()).filter(|row| !anew[*row]) {
@@ -36,9 +40,17 @@ impl Edited<'_> {
             pair.expect(stays, || self.described(&format!("changed row {row}")));
         }
         let count = anew.iter().filter(|anew| **anew).count() as u64;
-        pair.expect(self.touched == count, || {
-            self.described(&format!("touched {} rows, not {count}", self.touched))
+        let Answer { touched, compared, .. } = self.answer;
+        pair.expect(touched == count, || {
+            self.described(&format!("touched {touched} rows, not {count}"))
         });
+        let rows = decoded(self.table).1;
+        let reads = rows.iter().zip(&anew).filter(|(row, anew)| **anew && row.is_read()).count();
+        pair.expect(compared <= self.limit * reads as u64, || {
+            self.described(&format!("compared {compared} stores with {reads} reads"))
+        });
+        let Edited { table, kept: result, limit, .. } = *self;
+        Left { table, result, limit, compared }.by(pair, |row| anew[row]);
     }
 
     /// With any kept result: a variable worked out anew whose name a row above has is SHIFT by 0 of
@@ -57,6 +69,7 @@ impl Edited<'_> {
     }
 
     fn described(&self, fault: &str) -> String {
-        format!("edit of row {} {fault}: edited table {}", self.row, hex(self.table))
+        let Edited { row, limit, table, .. } = self;
+        format!("edit of row {row}, limit {limit}, {fault}: edited table {}", hex(table))
     }
 }

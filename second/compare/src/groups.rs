@@ -4,13 +4,14 @@ use crate::damage::{damaged, result_slice, row_number};
 use crate::edited::Edited;
 use crate::meaning::{decoded, World};
 use crate::pair::{hex, Pair};
+use crate::recount::Left;
 use crate::replacement::replacement;
-use crate::{kept, names, pieces, questions, sources, walks};
+use crate::{kept, limits, names, pieces, questions, sources, spent, walks};
 use second::{Row, Width};
 use tables::machine::Stack;
 use tables::random::Random;
 use tables::sources::numbered;
-use tables::{chain, crossing, machine, wellformed};
+use tables::{chain, crossing, machine, stores, wellformed};
 
 /// Evaluation walks arrays step by step, so it is left to small tables.
 pub const MOST_ROWS_EVALUATED: usize = 64;
@@ -21,11 +22,13 @@ pub fn cases(pair: &mut Pair, number: u64) {
     let width = random.width();
     let rows = some_rows(random, width, number);
     let table = numbered(random, width, &rows);
+    let limit = limits::some(random, rows.len());
 
-    sources::runs(pair, random, &table);
+    sources::runs(pair, random, &table, limit);
     let mut result = vec![0; table.len()];
-    second::run(&table, &mut result);
+    let compared = second::run(&table, &mut result, limit).compared;
 
+    Left { table: &table, result: &result, limit, compared }.by_run(pair);
     if rows.len() <= MOST_ROWS_EVALUATED {
         keeps_meaning(pair, random, &table, &result);
     }
@@ -33,17 +36,18 @@ pub fn cases(pair: &mut Pair, number: u64) {
     questions::over_foreign(pair, random, &table, &result);
     questions::over_twins(pair, random, &table, &result);
     questions::over_deep(pair, random, number);
-    own_edits(pair, random, table.clone(), result.clone());
+    own_edits(pair, random, table.clone(), result.clone(), limit);
     for _ in 0..2 {
         foreign_edit(pair, random, &table, &result);
     }
     for _ in 0..2 {
         damaged_calls(pair, random, width, &table, &result);
     }
-    sources::cases(pair, random, &table, &result);
+    sources::cases(pair, random, &table, &result, limit);
     walks::cases(pair, random, &table);
     names::cases(pair, random, number);
     pieces::generated(pair, random);
+    spent::cases(pair, random, number);
 }
 
 /// Most tables are small; every size up to 1,024 has its turn.
@@ -60,8 +64,9 @@ fn size(random: &mut Random, number: u64) -> usize {
 /// The rows of table `number`.
 pub fn some_rows(random: &mut Random, width: Width, number: u64) -> Vec<Row> {
     let count = size(random, number);
-    match random.below(13) {
+    match random.below(14) {
         0 => chain::rows(width, count),
+        13 => stores::rows(random, width, count),
         1..=4 => {
             let habits = machine::Habits {
                 heap: random.one_in(2),
@@ -92,8 +97,11 @@ pub fn keeps_meaning(pair: &mut Pair, random: &mut Random, table: &[u8], result:
     }
 }
 
-/// A chain of edits with the table's own kept result.
-pub fn own_edits(pair: &mut Pair, random: &mut Random, mut table: Vec<u8>, mut kept: Vec<u8>) {
+/// A chain of edits with the table's own kept result and the limit that it was made with, or a limit
+/// that is refused.
+pub fn own_edits(
+    pair: &mut Pair, random: &mut Random, mut table: Vec<u8>, mut kept: Vec<u8>, limit: u64,
+) {
     let behind = if random.one_in(4) { 1 + random.below(60) } else { 0 };
     kept.extend(random.bytes(behind));
     for _ in 0..random.pick(&[2, 4, 8]) {
@@ -101,7 +109,8 @@ pub fn own_edits(pair: &mut Pair, random: &mut Random, mut table: Vec<u8>, mut k
         let number = row_number(random, &table);
         let replacement = replacement(random, width, &rows, &kept, number);
         let before = kept.clone();
-        let answer = pair.edit(&mut table, &mut kept, number, &replacement);
+        let limit = if random.one_in(40) { limits::refused(random) } else { limit };
+        let answer = pair.edit(&mut table, &mut kept, number, &replacement, limit);
         if answer.refusal == 0 {
             let edited = Edited {
                 row: number as usize,
@@ -109,7 +118,8 @@ pub fn own_edits(pair: &mut Pair, random: &mut Random, mut table: Vec<u8>, mut k
                 table: &table,
                 kept_before: &before,
                 kept: &kept,
-                touched: answer.touched,
+                limit,
+                answer,
             };
             edited.is_a_fresh_run(pair);
             edited.leaves_others(pair);
@@ -128,14 +138,17 @@ fn foreign_edit(pair: &mut Pair, random: &mut Random, table: &[u8], result: &[u8
         let number = row_number(random, &table);
         let (_, rows) = decoded(&table);
         let replacement = replacement(random, width, &rows, &kept, number);
-        pair.edit(&mut table, &mut kept, number, &replacement);
+        let limit = limits::any(random, rows.len());
+        pair.edit(&mut table, &mut kept, number, &replacement, limit);
     }
 }
 
 /// Each call on a damaged table, at times with other faults beside it.
 fn damaged_calls(pair: &mut Pair, random: &mut Random, width: Width, table: &[u8], result: &[u8]) {
     let wrong = damaged(random, width, table);
-    sources::runs(pair, random, &wrong);
+    let (_, rows) = decoded(table);
+    let limit = limits::any(random, rows.len());
+    sources::runs(pair, random, &wrong, limit);
 
     questions::over_damaged(pair, random, width, &wrong, result);
     walks::any_row(pair, random, &wrong);
@@ -146,8 +159,7 @@ fn damaged_calls(pair: &mut Pair, random: &mut Random, width: Width, table: &[u8
         1 => damaged(random, width, result),
         _ => result.to_vec(),
     };
-    let (_, rows) = decoded(table);
     let number = row_number(random, table);
     let replacement = replacement(random, width, &rows, &kept, number);
-    pair.edit(&mut wrong, &mut kept, number, &replacement);
+    pair.edit(&mut wrong, &mut kept, number, &replacement, limit);
 }

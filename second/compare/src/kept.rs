@@ -4,7 +4,7 @@ use crate::damage::damaged;
 use crate::meaning::decoded;
 use crate::sources::renumbered;
 use second::bytes::{sources, table_bytes};
-use second::{Ref, Row, Sort, Width};
+use second::{Ref, Row, Sort, Width, HIGHEST_LIMIT};
 use tables::deep::{self, Habits};
 use tables::random::Random;
 use tables::sources::numbered;
@@ -24,7 +24,7 @@ pub fn foreign(random: &mut Random, table: &[u8], result: &[u8]) -> Vec<u8> {
         6 => {
             let other = others(random, width, &sorts);
             let mut kept = vec![0; other.len()];
-            second::run(&other, &mut kept);
+            second::run(&other, &mut kept, HIGHEST_LIMIT);
             kept
         }
         7..=9 => with_other_rows(random, width, result),

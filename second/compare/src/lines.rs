@@ -17,7 +17,7 @@ pub const ENDS: [&str; 3] =
 /// A store compared: its row, the two indexes, and the reason.
 pub struct Store {
     instruction: u64,
-    row: Ref,
+    pub row: Ref,
     index: Ref,
     against: Ref,
     pub given: Given,

@@ -9,21 +9,26 @@ mod groups;
 mod kept;
 mod leads;
 mod lent;
+mod limits;
 mod line;
 mod lines;
 mod meaning;
 mod names;
+mod orders;
 mod pair;
 mod paper;
 mod pieces;
 mod pipes;
 mod questions;
 mod reasons;
+mod recount;
 mod registers;
 mod replacement;
 mod sources;
+mod spent;
 mod tally;
 mod walks;
+mod within;
 
 use pair::Pair;
 use std::path::PathBuf;
@@ -99,6 +104,8 @@ fn main() -> ExitCode {
     pieces::cases(&mut pair);
     registers::cases(&mut pair);
     asked::cases(&mut pair);
+    orders::cases(&mut pair);
+    within::cases(&mut pair);
     every_byte::cases(&mut pair);
     for group in 0..wishes.groups {
         if wishes.trace {

@@ -4,6 +4,7 @@ use crate::aims::{Aim, Change, Chooser, AIMS};
 use crate::damage::result_slice;
 use crate::edited::Edited;
 use crate::groups::{keeps_meaning, MOST_ROWS_EVALUATED};
+use crate::limits;
 use crate::meaning::decoded;
 use crate::pair::{hex, Pair};
 use crate::paper::refused;
@@ -24,9 +25,10 @@ pub fn cases(pair: &mut Pair, random: &mut Random, number: u64) {
     let rows = rows_of(random, &taste, count as usize);
     let table = numbered(random, width, &rows);
 
-    pair.run(&table, &mut result_slice(random, &table));
+    let limit = limits::some(random, rows.len());
+    pair.run(&table, &mut result_slice(random, &table), limit);
     let mut result = vec![0; table.len()];
-    second::run(&table, &mut result);
+    second::run(&table, &mut result, limit);
     if rows.len() <= MOST_ROWS_EVALUATED {
         keeps_meaning(pair, random, &table, &result);
     }
@@ -35,7 +37,7 @@ pub fn cases(pair: &mut Pair, random: &mut Random, number: u64) {
         let own = random.one_in(2);
         let kept = if own { result.clone() } else { foreign(random, &table, &taste) };
         if let Some(change) = chooser.change(random, aim).filter(|_| random.one_in(3)) {
-            Aimed { aim, change, table: &table, own, kept }.edit(pair, random);
+            Aimed { aim, change, table: &table, own, kept, limit }.edit(pair, random);
         }
     }
     if let Some(change) = chooser.change(random, Aim::FirstOfOtherBounds) {
@@ -47,10 +49,11 @@ pub fn cases(pair: &mut Pair, random: &mut Random, number: u64) {
 fn kept_of_other_bounds(pair: &mut Pair, random: &mut Random, change: Change, table: &[u8]) {
     let mut kept = table.to_vec();
     kept[place(change.row)].copy_from_slice(&row_bytes(change.new, random.source()));
-    let row = random.below(decoded(table).1.len());
+    let rows = decoded(table).1.len();
+    let (row, limit) = (random.below(rows), limits::some(random, rows));
     let answers = [
         pair.ask(table, &kept, [row as u64; 2]).answer,
-        pair.edit(&mut table.to_vec(), &mut kept, row as u64, &table[place(row)]),
+        pair.edit(&mut table.to_vec(), &mut kept, row as u64, &table[place(row)], limit),
     ];
     pair.expect(answers == [refused(16, 0); 2], || {
         format!("{answers:?} for kept {} of {}", hex(&kept), hex(table))
@@ -68,18 +71,19 @@ fn foreign(random: &mut Random, table: &[u8], taste: &Taste) -> Vec<u8> {
     numbered(random, width, &rows)
 }
 
-/// A change of a table that has a kept result, its own or another.
+/// A change of a table that has a kept result, its own of this limit or another.
 struct Aimed<'a> {
     aim: Aim,
     change: Change,
     table: &'a [u8],
     own: bool,
     kept: Vec<u8>,
+    limit: u64,
 }
 
 impl Aimed<'_> {
     fn edit(self, pair: &mut Pair, random: &mut Random) {
-        let Change { row, new, old } = self.change;
+        let (Change { row, new, old }, limit) = (self.change, self.limit);
         let (mut table, mut kept) = (self.table.to_vec(), self.kept.clone());
         let (_, mut rows_before) = decoded(&table);
         if let Some(old) = old {
@@ -87,7 +91,7 @@ impl Aimed<'_> {
             rows_before[row] = as_far_as_names(&old);
         }
         let new = row_bytes(new, random.source());
-        let answer = pair.edit(&mut table, &mut kept, row as u64, &new);
+        let answer = pair.edit(&mut table, &mut kept, row as u64, &new, limit);
         pair.tally.add_aim(self.aim);
 
         if self.aim == Aim::FirstOfOtherBounds {
@@ -111,7 +115,8 @@ impl Aimed<'_> {
             table: &table,
             kept_before: &self.kept,
             kept: &kept,
-            touched: answer.touched,
+            limit,
+            answer,
         };
         edited.leaves_others(pair);
         edited.makes_later_ones_the_first(pair);

@@ -5,7 +5,7 @@ use crate::lent::Lent;
 use crate::lines::List;
 use crate::reasons::Given;
 use crate::tally::{Call, Seen, Tally};
-use second::bytes::sources;
+use second::bytes::{sources, HEADER, KIND, ROW};
 use second::{Answer, Comparison, Listing};
 use stezkoun::numbers;
 use tables::random::Random;
@@ -20,19 +20,21 @@ pub struct Pair {
     alignment: Random,
 }
 
-/// Refusal, row, removed, touched, and a call's own: a relation, a length or 0.
-type Numbers = [u64; 5];
+/// Refusal, row, removed, touched, compared, and a call's own: a relation, a length or 0.
+type Numbers = [u64; 6];
 
 pub fn hex(bytes: &[u8]) -> String {
     bytes.iter().map(|byte| format!("{byte:02x}")).collect()
 }
 
 fn library_numbers(answer: numbers::Answer, own: u64) -> Numbers {
-    [answer.refusal, answer.row, answer.removed, answer.touched, own]
+    let numbers::Answer { refusal, row, removed, touched, compared } = answer;
+    [refusal, row, removed, touched, compared, own]
 }
 
 fn second_numbers(answer: Answer, own: u64) -> Numbers {
-    [answer.refusal, answer.row, answer.removed, answer.touched, own]
+    let Answer { refusal, row, removed, touched, compared } = answer;
+    [refusal, row, removed, touched, compared, own]
 }
 
 impl Pair {
@@ -50,31 +52,41 @@ impl Pair {
         }
     }
 
-    pub fn run(&mut self, table: &[u8], result: &mut [u8]) -> Answer {
+    pub fn run(&mut self, table: &[u8], result: &mut [u8], limit: u64) -> Answer {
         let [mut lent, mut room] = [table, &*result].map(|bytes| self.lent(bytes));
-        let given = library_numbers(numbers::run(lent.content(), room.content()), 0);
+        let given = numbers::run(lent.content(), room.content(), limit);
         let mut seen = Seen::default();
-        let answer = second::run_watched(table, result, &mut seen);
+        let answer = second::run_watched(table, result, limit, &mut seen);
         self.tally.add(Call::Run, answer, &seen);
-        let expected = second_numbers(answer, 0);
+        self.tally.add_limit(Call::Run, limit);
+        if answer.refusal == 0 {
+            // A READ is known by its kind byte.
+            let reads = table[HEADER..].chunks(ROW).filter(|row| row[KIND] == 7).count() as u64;
+            let most = limit * reads;
+            self.expect(given.compared <= most && answer.compared <= most, || {
+                format!("{given:?} and {answer:?}, limit {limit}, for {}", hex(table))
+            });
+        }
+        let (given, expected) = (library_numbers(given, 0), second_numbers(answer, 0));
         let buffers = [("table", lent, table), ("result", room, result)];
-        self.agree("run", given, expected, buffers);
+        self.agree(&format!("run, limit {limit}"), given, expected, buffers);
         answer
     }
 
     pub fn edit(
-        &mut self, table: &mut [u8], kept: &mut [u8], row: u64, replacement: &[u8],
+        &mut self, table: &mut [u8], kept: &mut [u8], row: u64, replacement: &[u8], limit: u64,
     ) -> Answer {
         let [mut lent, mut room, mut new] =
             [&*table, kept, replacement].map(|bytes| self.lent(bytes));
-        let given = numbers::edit(lent.content(), room.content(), row, new.content());
+        let given = numbers::edit(lent.content(), room.content(), row, new.content(), limit);
         let mut seen = Seen::default();
-        let answer = second::edit_watched(table, kept, row, replacement, &mut seen);
+        let answer = second::edit_watched(table, kept, row, replacement, limit, &mut seen);
         self.tally.add(Call::Edit, answer, &seen);
+        self.tally.add_limit(Call::Edit, limit);
         let (given, expected) = (library_numbers(given, 0), second_numbers(answer, 0));
         let buffers =
             [("table", lent, &*table), ("kept", room, kept), ("replacement", new, replacement)];
-        self.agree(&format!("edit row {row}"), given, expected, buffers);
+        self.agree(&format!("edit row {row}, limit {limit}"), given, expected, buffers);
         answer
     }
 
@@ -150,7 +162,8 @@ impl Pair {
         self.cases += 1;
         let mut wrong = None;
         if given != expected {
-            wrong = Some("refusal, row, removed, touched, relation or length".to_string());
+            wrong =
+                Some("refusal, row, removed, touched, compared, relation or length".to_string());
         }
         for (name, lent, after) in &mut buffers {
             if !lent.guards_stand() {

@@ -3,7 +3,7 @@
 use crate::pair::{hex, Pair};
 use second::bytes::{row_bytes, table_bytes, MOST_ROWS};
 use second::text::packed;
-use second::{Answer, Relation, Row, Width};
+use second::{Answer, Relation, Row, Width, HIGHEST_LIMIT};
 
 /// P1 written out, so that the encoder is not trusted with it; examples/p1.rows is its text.
 const P1: &str = "465408000900\
@@ -22,27 +22,37 @@ pub fn p1() -> Vec<u8> {
     digits.chunks(2).map(|pair| pair[0] << 4 | pair[1]).collect()
 }
 
-const P1_RESULT: &str = "width 8; VAR 200 250; FRESH; SHIFT 0 248 @6; CONST 7 @6; WRITE 1 2 3 @6; \
+pub const P1_RESULT: &str =
+    "width 8; VAR 200 250; FRESH; SHIFT 0 248 @6; CONST 7 @6; WRITE 1 2 3 @6; \
     SHIFT 0 224 @9; SHIFT 0 248 @9; CONST 7 @9;";
 
-pub fn accepted(removed: u64, touched: u64) -> Answer {
-    Answer { refusal: 0, row: 0, removed, touched }
+pub fn accepted(removed: u64, touched: u64, compared: u64) -> Answer {
+    Answer { refusal: 0, row: 0, removed, touched, compared }
 }
 
 pub fn refused(refusal: u64, row: u64) -> Answer {
-    Answer { refusal, row, removed: 0, touched: 0 }
+    Answer { refusal, row, removed: 0, touched: 0, compared: 0 }
 }
 
 pub fn table(text: &str) -> Vec<u8> {
     packed(text).expect("rows as text")
 }
 
+/// A run with the highest limit.
 pub fn runs(pair: &mut Pair, table: &[u8], answer: Answer, result: Option<&[u8]>) {
+    runs_within(pair, table, HIGHEST_LIMIT, answer, result);
+}
+
+pub fn runs_within(
+    pair: &mut Pair, table: &[u8], limit: u64, answer: Answer, result: Option<&[u8]>,
+) {
     let mut given = vec![0x5a; table.len()];
-    let got = pair.run(table, &mut given);
-    pair.expect(got == answer, || format!("{got:?} for {}", hex(table)));
+    let got = pair.run(table, &mut given, limit);
+    pair.expect(got == answer, || format!("{got:?}, limit {limit}, for {}", hex(table)));
     if let Some(result) = result {
-        pair.expect(given == result, || format!("result {} of {}", hex(&given), hex(table)));
+        pair.expect(given == result, || {
+            format!("result {} of {}, limit {limit}", hex(&given), hex(table))
+        });
     }
 }
 
@@ -50,7 +60,7 @@ pub fn runs(pair: &mut Pair, table: &[u8], answer: Answer, result: Option<&[u8]>
 pub fn relates(pair: &mut Pair, text: &str, first: u64, others: &[(u64, Relation)]) {
     let table = table(text);
     let mut result = vec![0x5a; table.len()];
-    pair.run(&table, &mut result);
+    pair.run(&table, &mut result, HIGHEST_LIMIT);
     for (second, relation) in others {
         let got = pair.ask(&table, &result, [first, *second]).relation();
         pair.expect(got == *relation, || format!("{got:?} for rows {first}, {second} of {text}"));
@@ -68,21 +78,22 @@ pub fn cases(pair: &mut Pair) {
 fn p1_to_p4(pair: &mut Pair) {
     let p1 = p1();
     let result = table(&format!("{P1_RESULT} READ 1 7 @12"));
-    runs(pair, &p1, accepted(1, 9), Some(&result));
+    runs(pair, &p1, accepted(1, 9, 2), Some(&result));
 
     let (mut edited, mut kept) = (p1.clone(), result.clone());
     let wide = row_bytes(Row::Var { name: 0, low: 0, high: 250 }, u32::MAX);
-    let answer = pair.edit(&mut edited, &mut kept, 0, &wide);
+    let answer = pair.edit(&mut edited, &mut kept, 0, &wide, HIGHEST_LIMIT);
     let outcome = format!("{P1_RESULT} READ 4 7 @12");
     let outcome = table(&outcome.replace("VAR 200 250", "VAR 0 250 @4294967295"));
-    pair.expect(answer == accepted(1, 7) && kept == outcome, || format!("P2 gave {answer:?}"));
+    pair.expect(answer == accepted(1, 7, 2) && kept == outcome, || format!("P2 gave {answer:?}"));
 
     let (mut edited, mut kept) = (p1.clone(), result.clone());
-    let answer = pair.edit(&mut edited, &mut kept, 1, &row_bytes(Row::Const { k: 0 }, 1));
+    let word = row_bytes(Row::Const { k: 0 }, 1);
+    let answer = pair.edit(&mut edited, &mut kept, 1, &word, HIGHEST_LIMIT);
     pair.expect(answer == refused(14, 4), || format!("P3 gave {answer:?}"));
 
     let empty = [0x46, 0x54, 8, 0, 0, 0];
-    runs(pair, &empty, accepted(0, 0), Some(&empty));
+    runs(pair, &empty, accepted(0, 0, 0), Some(&empty));
 }
 
 /// P2 and P5 to P7, seen from outside: a row is apart from a CONST just outside its range.
@@ -113,7 +124,7 @@ fn ranges(pair: &mut Pair) {
 fn words_and_writes(pair: &mut Pair) {
     let mut becomes = |rows: &str, last: &str, result: &str, touched: u64| {
         let [input, result] = [last, result].map(|end| table(&format!("{rows} {end}")));
-        runs(pair, &input, accepted(0, touched), Some(&result));
+        runs(pair, &input, accepted(0, touched, 0), Some(&result));
     };
     let p8 = "width 8; VAR 0 255; SHIFT 0 5; SHIFT 0 3;";
     becomes(p8, "DIFF 1 2 0 @3; DIFF 2 1 0 @2", "CONST 2 @3; CONST 254 @2", 5);
@@ -127,8 +138,8 @@ fn run_line(pair: &mut Pair) {
     let header = |width: u8| [0x46, 0x54, width, 0, 0, 0];
     runs(pair, &header(0), refused(3, 0), None);
     runs(pair, &header(65), refused(3, 0), None);
-    runs(pair, &header(1), accepted(0, 0), Some(&header(1)));
-    runs(pair, &header(64), accepted(0, 0), Some(&header(64)));
+    runs(pair, &header(1), accepted(0, 0, 0), Some(&header(1)));
+    runs(pair, &header(64), accepted(0, 0, 0), Some(&header(64)));
 
     let fresh_rows = |count: usize| {
         let sources: Vec<u32> = (0..count as u32).collect();
@@ -136,9 +147,9 @@ fn run_line(pair: &mut Pair) {
     };
     runs(pair, &fresh_rows(MOST_ROWS + 1), refused(4, 0), None);
     let full = fresh_rows(MOST_ROWS);
-    runs(pair, &full, accepted(0, 1024), Some(&full));
+    runs(pair, &full, accepted(0, 1024, 0), Some(&full));
     pair.expect(full.len() == 30_726, || format!("{} bytes in 1,024 rows", full.len()));
-    runs(pair, &table("width 8; CONST 255"), accepted(0, 1), None);
+    runs(pair, &table("width 8; CONST 255"), accepted(0, 1, 0), None);
     runs(pair, &table("width 8; CONST 256"), refused(12, 0), None);
     runs(pair, &table("width 8; VAR 0 9; SHIFT 1 0"), refused(13, 1), None);
 }

@@ -3,8 +3,8 @@
 use crate::groups::{keeps_meaning, own_edits};
 use crate::pair::Pair;
 use crate::paper::{accepted, relates, runs, table};
-use crate::questions;
 use crate::walks::{self, lists};
+use crate::{limits, questions};
 use second::Relation::{Apart, NotKnown};
 use second::Width;
 use tables::crossing;
@@ -20,13 +20,14 @@ pub fn generated(pair: &mut Pair, random: &mut Random) {
     let count = random.from_to(8, 32) as usize;
     let rows = crossing::rows(random, width, count);
     let table = numbered(random, width, &rows);
+    let limit = limits::some(random, rows.len());
     let mut result = vec![0; table.len()];
-    pair.run(&table, &mut result);
+    pair.run(&table, &mut result, limit);
     keeps_meaning(pair, random, &table, &result);
     questions::over_own(pair, random, &table, &result, 4);
     questions::over_foreign(pair, random, &table, &result);
     walks::cases(pair, random, &table);
-    own_edits(pair, random, table, result);
+    own_edits(pair, random, table, result, limit);
 }
 
 pub fn cases(pair: &mut Pair) {
@@ -48,7 +49,7 @@ fn stack(pair: &mut Pair) {
     let reads = "READ 10 3; READ 6 11; READ 10 12; READ 10 13; READ 6 14; READ 8 15; READ 6 15";
     let result = "CONST 7; READ 4 11; READ 10 12; READ 6 13; READ 1 14; READ 1 15; READ 1 15";
     let [input, result] = [reads, result].map(|reads| table(&format!("{rows} {reads}")));
-    runs(pair, &input, accepted(1, 23), Some(&result));
+    runs(pair, &input, accepted(1, 23, 17), Some(&result));
 }
 
 /// Each result of a sum goes into the next as one or two pieces.

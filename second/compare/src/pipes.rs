@@ -3,6 +3,7 @@
 
 use crate::damage::{damaged, row_number};
 use crate::groups::some_rows;
+use crate::limits;
 use crate::pair::{hex, Pair};
 use crate::paper::p1;
 use crate::questions::two_rows;
@@ -45,6 +46,33 @@ const WRONG: [&[&[u8]]; 19] = [
     &[b"99999999999999999999"],
     &[b"000000000000000000008"],
 ];
+
+/// What `show` is told: limits, and what is none; and the line that it then prints.
+const LIMITS: [&str; 7] = ["0", "1", "08", "00000000000000000008", "1023", "1024", "01024"];
+const NO_LIMITS: [&[&str]; 21] = [
+    &["--limit"],
+    &["--limit", "1025"],
+    &["--limit", "2048"],
+    &["--limit", "4294967299"],
+    &["--limit", "9223372036854775808"],
+    &["--limit", "18446744073709551615"],
+    &["--limit", "--limit"],
+    &["--limit", "8", "--limit"],
+    &["--limit", "8", "--limit", "8"],
+    &["--limit", "--limit", "8"],
+    &["--limit=8"],
+    &["--limit 8"],
+    &["--limit", "8", "8"],
+    &["--limit", "0x8"],
+    &["-limit", "8"],
+    &["limit", "8"],
+    &["--Limit", "8"],
+    &["--limits", "8"],
+    &["--limi", "8"],
+    &["8", "--limit"],
+    &["-l", "8"],
+];
+const USE_OF_SHOW: &[u8] = b"use: show [--limit L] < TABLE, L from 0 to 1024\n";
 
 /// What a program is told, and what it finds on standard input.
 struct Call {
@@ -89,9 +117,40 @@ fn inputs(seed: u64) -> Vec<Vec<u8>> {
 /// The program and the second one.
 pub type Programs<'p> = [&'p Path; 2];
 
+/// Each table without a limit and with one.
 pub fn show(pair: &mut Pair, programs: Programs) {
-    let calls = inputs(pair.seed).into_iter().map(|input| Call { arguments: vec![], input });
-    alike(pair, "show", programs, calls.collect());
+    let random = &mut Random::new(!pair.seed);
+    let within = |limit: &str| vec![b"--limit".to_vec(), limit.into()];
+    let mut calls = Vec::new();
+    for input in inputs(pair.seed) {
+        let limit = limits::some(random, input.len() / ROW).to_string();
+        for arguments in [vec![], within(&limit)] {
+            calls.push(Call { arguments, input: input.clone() });
+        }
+    }
+    calls.extend(LIMITS.map(|limit| Call { arguments: within(limit), input: p1() }));
+    alike(pair, "show", programs, calls);
+
+    // What is no number, alone and in a limit's place; without any it is no fault.
+    let words = WRONG.iter().filter(|words| !words.is_empty());
+    let wrong = words.flat_map(|words| {
+        let limit: &[u8] = b"--limit";
+        [words.to_vec(), [&[limit], *words].concat()]
+    });
+    let no_limits =
+        NO_LIMITS.iter().map(|words| words.iter().map(|word| word.as_bytes()).collect());
+    let calls: Vec<Call> = wrong
+        .chain(no_limits)
+        .map(|words| Call {
+            arguments: words.into_iter().map(|word| word.to_vec()).collect(),
+            input: p1(),
+        })
+        .collect();
+    for call in &calls {
+        let told = printed(programs[1], call) == USE_OF_SHOW;
+        pair.expect(told, || format!("second-show {:?}", call.arguments));
+    }
+    alike(pair, "show, told otherwise", programs, calls);
 }
 
 pub fn why(pair: &mut Pair, programs: Programs) {

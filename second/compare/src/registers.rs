@@ -3,6 +3,7 @@
 use crate::pair::{hex, Pair};
 use crate::paper::{accepted, refused, runs, table};
 use second::bytes::{place, HEADER, KIND, REFERENCES, ROW, ZERO};
+use second::HIGHEST_LIMIT;
 
 pub fn cases(pair: &mut Pair) {
     pair.group = "registers seen twice".into();
@@ -24,21 +25,23 @@ fn count(table: &[u8]) -> u64 {
 }
 
 fn results(pair: &mut Pair) {
-    let mut becomes = |text: &str, removed: u64, result: &str| {
+    let mut becomes = |text: &str, removed: u64, compared: u64, result: &str| {
         let [table, result] = [text, result].map(rows);
-        runs(pair, &table, accepted(removed, count(&table)), Some(&result));
+        runs(pair, &table, accepted(removed, count(&table), compared), Some(&result));
     };
     becomes(
         "VAR 3 0 255 @1; VAR 3 0 255 @2; DIFF 0 1 0 @3; DIFF 1 0 5 @4",
         0,
+        0,
         "VAR 3 0 255 @1; SHIFT 0 0 @2; CONST 0 @3; CONST 5 @4",
     );
     // Each row without a name is a variable of its own, whatever its bounds.
-    becomes("VAR 0 9; VAR 0 9; DIFF 0 1 0; VAR 5 7", 0, "VAR 0 9; VAR 0 9; DIFF 0 1 0; VAR 5 7");
+    becomes("VAR 0 9; VAR 0 9; DIFF 0 1 0; VAR 5 7", 0, 0, "VAR 0 9; VAR 0 9; DIFF 0 1 0; VAR 5 7");
     // The first, not the one before; and names that agree modulo 256 are different names.
     becomes(
         "VAR 3 0 9; VAR 259 1 9; VAR 3 0 9; VAR 259 1 9; VAR 3 0 9; VAR 65283 2 9; DIFF 4 2 0; \
         DIFF 3 4 0",
+        0,
         0,
         "VAR 3 0 9; VAR 259 1 9; SHIFT 0 0; SHIFT 1 0; SHIFT 0 0; VAR 65283 2 9; CONST 0; \
         DIFF 1 0 0",
@@ -47,6 +50,7 @@ fn results(pair: &mut Pair) {
     becomes(
         "VAR 65535 0 9; VAR 1 0 8; FRESH; VAR 2 3 4; VAR 65535 0 9; VAR 1 0 8",
         0,
+        0,
         "VAR 65535 0 9; VAR 1 0 8; FRESH; VAR 2 3 4; SHIFT 0 0; SHIFT 1 0",
     );
     // What is stored through the first is read through the second, and stands at the plain name.
@@ -54,6 +58,7 @@ fn results(pair: &mut Pair) {
         "VAR 3 100 200; FRESH; CONST 7; WRITE 1 0 2; VAR 3 100 200; READ 3 4; WRITE 3 4 4; \
         VAR 9 0 255; VAR 9 0 255; READ 6 8",
         1,
+        2,
         "VAR 3 100 200; FRESH; CONST 7; WRITE 1 0 2; SHIFT 0 0; CONST 7; WRITE 1 0 0; \
         VAR 9 0 255; SHIFT 7 0; READ 6 7",
     );
@@ -63,10 +68,11 @@ fn results(pair: &mut Pair) {
 fn is_refused(pair: &mut Pair, table: &[u8], number: u64, row: u64) {
     runs(pair, table, refused(number, row), None);
     let (last, slice) = (count(table) - 1, || vec![0x5a; table.len()]);
+    let replacement = &table[place(last as usize)];
     let answers = [
         pair.ask(table, &slice(), [last, last]).answer,
         pair.why(table, &mut slice(), last, &mut []).answer,
-        pair.edit(&mut table.to_vec(), &mut slice(), last, &table[place(last as usize)]),
+        pair.edit(&mut table.to_vec(), &mut slice(), last, replacement, HIGHEST_LIMIT),
     ];
     let right = answers.iter().all(|answer| *answer == refused(number, row));
     pair.expect(right, || format!("{answers:?} for {}", hex(table)));
@@ -134,7 +140,7 @@ impl Edit<'_> {
         }
         let table = rows(self.table);
         let mut kept = vec![0; table.len()];
-        second::run(&table, &mut kept);
+        second::run(&table, &mut kept, HIGHEST_LIMIT);
         kept
     }
 
@@ -145,8 +151,9 @@ impl Edit<'_> {
     /// With these bytes for the table, which may be none.
     fn over(&self, pair: &mut Pair, mut table: Vec<u8>, touched: u64, outcome: &str) {
         let mut kept = self.kept();
-        let answer = pair.edit(&mut table, &mut kept, self.row, &rows(self.new)[place(0)]);
-        let right = answer == accepted(answer.removed, touched) && kept == rows(outcome);
+        let new = &rows(self.new)[place(0)];
+        let answer = pair.edit(&mut table, &mut kept, self.row, new, HIGHEST_LIMIT);
+        let right = answer == accepted(answer.removed, touched, 0) && kept == rows(outcome);
         pair.expect(right, || {
             let Edit { table, row, new, .. } = self;
             format!("{answer:?} and {} for {new} in row {row} of {table}", hex(&kept))
@@ -154,8 +161,8 @@ impl Edit<'_> {
     }
 
     fn is_refused(self, pair: &mut Pair, number: u64, row: u64) {
-        let answer =
-            pair.edit(&mut rows(self.table), &mut self.kept(), self.row, &rows(self.new)[place(0)]);
+        let (mut table, mut kept, new) = (rows(self.table), self.kept(), rows(self.new));
+        let answer = pair.edit(&mut table, &mut kept, self.row, &new[place(0)], HIGHEST_LIMIT);
         pair.expect(answer == refused(number, row), || {
             format!("{answer:?} for {} in row {} of {}", self.new, self.row, self.table)
         });

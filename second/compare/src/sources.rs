@@ -28,15 +28,16 @@ fn with_sources(bytes: &[u8], sources: &[u32]) -> Vec<u8> {
     bytes
 }
 
-pub fn cases(pair: &mut Pair, random: &mut Random, table: &[u8], result: &[u8]) {
+/// Of a table and its own result, made with this limit.
+pub fn cases(pair: &mut Pair, random: &mut Random, table: &[u8], result: &[u8], limit: u64) {
     questions(pair, random, table, result);
     lists(pair, random, table);
-    edits(pair, random, table, result);
+    edits(pair, random, table, result, limit);
 }
 
 /// Fresh runs of bytes that may be no table.
-pub fn runs(pair: &mut Pair, random: &mut Random, table: &[u8]) {
-    one_answer(pair, random, table, |pair, table, result| (pair.run(table, result), ()));
+pub fn runs(pair: &mut Pair, random: &mut Random, table: &[u8], limit: u64) {
+    one_answer(pair, random, table, |pair, table, result| (pair.run(table, result, limit), ()));
 }
 
 fn questions(pair: &mut Pair, random: &mut Random, table: &[u8], result: &[u8]) {
@@ -104,7 +105,7 @@ impl Edit {
 }
 
 /// One edit, with the table's own kept result as it is and with other numbers everywhere.
-fn edits(pair: &mut Pair, random: &mut Random, table: &[u8], result: &[u8]) {
+fn edits(pair: &mut Pair, random: &mut Random, table: &[u8], result: &[u8], limit: u64) {
     let (width, rows) = decoded(table);
     let number = row_number(random, table);
     let replacement = replacement(random, width, &rows, result, number);
@@ -112,7 +113,7 @@ fn edits(pair: &mut Pair, random: &mut Random, table: &[u8], result: &[u8]) {
     let before = [one.renumbered(random), one];
     let after = before.each_ref().map(|Edit { table, kept, replacement }| {
         let (mut table, mut kept) = (table.clone(), kept.clone());
-        let answer = pair.edit(&mut table, &mut kept, number, replacement);
+        let answer = pair.edit(&mut table, &mut kept, number, replacement, limit);
         (answer, table, kept)
     });
     let [(answer, table, kept), (other, ..)] = &after;

@@ -1,6 +1,7 @@
 //! What the cases reached.
 
 use crate::aims::{Aim, AIMS};
+use crate::limits::{kind_of_limit, KINDS_OF_LIMIT};
 use crate::lines::{List, ENDS};
 use crate::reasons::{Given, REASONS};
 use second::{Answer, Event, Relation, Watch};
@@ -27,6 +28,10 @@ impl Call {
         ["run", "edit", "ask", "why"][self as usize]
     }
 
+    fn takes_limit(self) -> bool {
+        self == Call::Run || self == Call::Edit
+    }
+
     /// The refusals that the documents let this call give, and acceptance.
     fn may_give(self, refusal: usize) -> bool {
         match refusal {
@@ -35,6 +40,7 @@ impl Call {
             8 => self == Call::Edit,
             16 => self == Call::Edit || self == Call::Ask,
             17 | 22 => self == Call::Why,
+            19 => self.takes_limit(),
             _ => false,
         }
     }
@@ -63,6 +69,7 @@ impl Watch for Seen {
 pub struct Tally {
     calls: [u64; 4],
     refusals: [[u64; REFUSALS]; 4],
+    limits: [[u64; KINDS_OF_LIMIT.len()]; 4],
     relations: [u64; 3],
     /// Those that questions were answered with, and those that lists gave.
     reasons: [[u64; REASONS.len()]; 2],
@@ -85,6 +92,10 @@ impl Tally {
         for (count, seen) in events.iter_mut().zip(&seen.0) {
             *count += *seen as u64;
         }
+    }
+
+    pub fn add_limit(&mut self, call: Call, limit: u64) {
+        self.limits[call as usize][kind_of_limit(limit)] += 1;
     }
 
     /// An accepted question.
@@ -131,6 +142,13 @@ impl Tally {
                 let name =
                     if refusal == 0 { "accepted".into() } else { format!("refusal {refusal}") };
                 line(&name, self.refusals[call as usize][refusal], cases);
+            }
+        }
+        for call in Call::ALL.into_iter().filter(|call| call.takes_limit()) {
+            let cases = self.calls[call as usize];
+            println!("{}: limits, shares of {cases} cases", call.name());
+            for (kind, count) in KINDS_OF_LIMIT.iter().zip(self.limits[call as usize]) {
+                line(kind, count, cases);
             }
         }
         for call in [Call::Edit, Call::Ask] {

@@ -6,7 +6,7 @@ use crate::reason::{Reason, Relation};
 use crate::row::Sort;
 use crate::simplify::Simplifier;
 use crate::watch::Watch;
-use crate::{answered, check_kept, check_lent, check_number, Answer};
+use crate::{answered, check_kept, check_lent, check_number, Answer, Counts, HIGHEST_LIMIT};
 
 #[derive(Clone, Copy, PartialEq, Eq, Debug)]
 pub struct Comparison {
@@ -42,13 +42,13 @@ pub fn ask_watched(
         }
         // Rows above both have no part in their ranges.
         let [first, second] = [first, second].map(|number| number as usize);
-        let mut result = Simplifier::new(header.width, header.rows, watch);
+        let mut result = Simplifier::new(header, HIGHEST_LIMIT, watch);
         for row in &standing[..=first.max(second)] {
             result.settle(*row);
         }
         reason = result.reason(first, second);
-        // Without a run no READ is removed and no row touched.
-        Ok((0, 0))
+        // Without a run no READ is removed, no row touched and no store compared.
+        Ok(Counts::default())
     })());
     Comparison { answer, reason }
 }

@@ -30,39 +30,46 @@ use check::{check_header, check_rows, refused, Header, Refused};
 use names::first_of_name;
 use simplify::Simplifier;
 
+/// The highest limit on the stores that a READ compares, and the one of all that takes none.
+pub const HIGHEST_LIMIT: u64 = 1024;
+
 #[derive(Clone, Copy, PartialEq, Eq, Debug)]
 pub struct Answer {
     pub refusal: u64,
     pub row: u64,
     pub removed: u64,
     pub touched: u64,
+    pub compared: u64,
 }
 
-pub fn run(table: &[u8], result: &mut [u8]) -> Answer {
-    run_watched(table, result, &mut ())
+pub fn run(table: &[u8], result: &mut [u8], limit: u64) -> Answer {
+    run_watched(table, result, limit, &mut ())
 }
 
-pub fn edit(table: &mut [u8], kept: &mut [u8], row: u64, replacement: &[u8]) -> Answer {
-    edit_watched(table, kept, row, replacement, &mut ())
+pub fn edit(table: &mut [u8], kept: &mut [u8], row: u64, replacement: &[u8], limit: u64) -> Answer {
+    edit_watched(table, kept, row, replacement, limit, &mut ())
 }
 
-pub fn run_watched(table: &[u8], result: &mut [u8], watch: &mut impl Watch) -> Answer {
+pub fn run_watched(table: &[u8], result: &mut [u8], limit: u64, watch: &mut impl Watch) -> Answer {
     answered((|| {
         let header = check_lent(table, result)?;
+        check_limit(limit)?;
         let rows = check_rows(table, header)?;
-        let outcome = simplified(header, &rows, watch);
+        let outcome = simplified(header, &rows, limit, watch);
         write_result(result, table, outcome.rows(), &sources(table));
-        Ok(counts(&rows, outcome.rows(), header.rows))
+        Ok(counts(&rows, &outcome, header.rows))
     })())
 }
 
 pub fn edit_watched(
-    table: &mut [u8], kept: &mut [u8], row: u64, replacement: &[u8], watch: &mut impl Watch,
+    table: &mut [u8], kept: &mut [u8], row: u64, replacement: &[u8], limit: u64,
+    watch: &mut impl Watch,
 ) -> Answer {
     answered((|| {
         let header = check_lent(table, kept)?;
         check_number(row, header)?;
         let replacement: &[u8; ROW] = replacement.try_into().map_err(|_| refused(8))?;
+        check_limit(limit)?;
         let edited = row as usize;
 
         let mut new_table = table.to_vec();
@@ -72,7 +79,7 @@ pub fn edit_watched(
 
         let anew = worked_out_anew(table, &rows, edited, watch);
         let carried = carried(&new_table, &kept[..new_table.len()], &anew, watch);
-        let mut outcome = Simplifier::new(header.width, header.rows, watch);
+        let mut outcome = Simplifier::new(header, limit, watch);
         for number in 0..header.rows {
             if anew[number] {
                 work_out(&mut outcome, &rows, number);
@@ -83,7 +90,7 @@ pub fn edit_watched(
         let touched = anew.iter().filter(|anew| **anew).count();
         table[place(edited)].copy_from_slice(replacement);
         write_result(kept, table, outcome.rows(), &carried);
-        Ok(counts(&rows, outcome.rows(), touched))
+        Ok(counts(&rows, &outcome, touched))
     })())
 }
 
@@ -99,6 +106,13 @@ fn check_lent(table: &[u8], result: &[u8]) -> Result<Header, Refused> {
 fn check_number(row: u64, header: Header) -> Result<(), Refused> {
     if row >= header.rows as u64 {
         return Err(refused(7));
+    }
+    Ok(())
+}
+
+fn check_limit(limit: u64) -> Result<(), Refused> {
+    if limit > HIGHEST_LIMIT {
+        return Err(refused(19));
     }
     Ok(())
 }
@@ -125,8 +139,10 @@ fn check_kept(
     Ok(standing)
 }
 
-fn simplified<'w, W: Watch>(header: Header, rows: &[Row], watch: &'w mut W) -> Simplifier<'w, W> {
-    let mut outcome = Simplifier::new(header.width, header.rows, watch);
+fn simplified<'w, W: Watch>(
+    header: Header, rows: &[Row], limit: u64, watch: &'w mut W,
+) -> Simplifier<'w, W> {
+    let mut outcome = Simplifier::new(header, limit, watch);
     for number in 0..rows.len() {
         work_out(&mut outcome, rows, number);
     }
@@ -203,10 +219,18 @@ fn carried(table: &[u8], kept: &[u8], anew: &[bool], watch: &mut impl Watch) -> 
     numbers
 }
 
-/// The counts of an accepted call: removed, touched.
-fn counts(rows: &[Row], outcome: &[Row], touched: usize) -> (usize, usize) {
-    let removed = rows.iter().zip(outcome).filter(|(row, new)| row.is_read() && !new.is_read());
-    (removed.count(), touched)
+/// The counts of an accepted call.
+#[derive(Default)]
+struct Counts {
+    removed: usize,
+    touched: usize,
+    compared: u64,
+}
+
+fn counts<W: Watch>(rows: &[Row], outcome: &Simplifier<W>, touched: usize) -> Counts {
+    let removed =
+        rows.iter().zip(outcome.rows()).filter(|(row, new)| row.is_read() && !new.is_read());
+    Counts { removed: removed.count(), touched, compared: outcome.compared() }
 }
 
 fn write_result(result: &mut [u8], table: &[u8], rows: &[Row], sources: &[u32]) {
@@ -217,11 +241,12 @@ fn write_result(result: &mut [u8], table: &[u8], rows: &[Row], sources: &[u32]) 
     }
 }
 
-fn answered(outcome: Result<(usize, usize), Refused>) -> Answer {
-    match outcome {
-        Ok((removed, touched)) => {
-            Answer { refusal: 0, row: 0, removed: removed as u64, touched: touched as u64 }
-        }
-        Err(Refused { number, row }) => Answer { refusal: number, row, removed: 0, touched: 0 },
-    }
+fn answered(outcome: Result<Counts, Refused>) -> Answer {
+    let (Refused { number, row }, counts) = match outcome {
+        Ok(counts) => (refused(0), counts),
+        Err(refused) => (refused, Counts::default()),
+    };
+    let Counts { removed, touched, compared } = counts;
+    let [removed, touched] = [removed, touched].map(|count| count as u64);
+    Answer { refusal: number, row, removed, touched, compared }
 }

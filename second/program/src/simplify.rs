@@ -1,5 +1,6 @@
 //! The rules. Rows are settled in ascending order, so each rule finds the rows it names final.
 
+use crate::check::Header;
 use crate::normal::{Base, Normal};
 use crate::range::Range;
 use crate::reason::{Reason, Relation};
@@ -18,17 +19,25 @@ pub struct Simplifier<'w, W: Watch> {
     rows: Vec<Row>,
     /// One for each settled row, so that none is worked out twice; an array's is never asked for.
     ranges: Vec<Range>,
+    /// How many stores a read compares at most, and how many all reads worked out have compared.
+    limit: u64,
+    compared: u64,
     watch: &'w mut W,
 }
 
 impl<'w, W: Watch> Simplifier<'w, W> {
-    pub fn new(width: Width, room: usize, watch: &'w mut W) -> Self {
+    pub fn new(header: Header, limit: u64, watch: &'w mut W) -> Self {
+        let Header { width, rows: room } = header;
         let (rows, ranges) = (Vec::with_capacity(room), Vec::with_capacity(room));
-        Simplifier { width, rows, ranges, watch }
+        Simplifier { width, rows, ranges, limit, compared: 0, watch }
     }
 
     pub fn rows(&self) -> &[Row] {
         &self.rows
+    }
+
+    pub fn compared(&self) -> u64 {
+        self.compared
     }
 
     /// Takes `row` as the next result row.
@@ -172,7 +181,10 @@ impl<'w, W: Watch> Simplifier<'w, W> {
     }
 
     fn read(&mut self, from: Ref, index: Ref) -> Row {
-        match self.walk(from, index, |_, _, _| {}) {
+        let mut stores = 0;
+        let end = self.walk(from, index, |_, _, _| stores += 1);
+        self.compared += stores;
+        match end {
             End::Found { element } => self.shift(element, 0),
             End::Stands { on } => Row::Read { array: on, index: self.plain_name(index) },
         }
@@ -183,10 +195,15 @@ impl<'w, W: Watch> Simplifier<'w, W> {
         &mut self, from: Ref, index: Ref, mut compared: impl FnMut(Ref, Ref, Reason),
     ) -> End {
         let mut array = from;
+        let mut left = self.limit;
         let (event, end) = loop {
             let Row::Write { array: below, index: at, value } = self.rows[array] else {
                 break (Event::ReadStoppedAtFresh, End::Stands { on: array });
             };
+            if left == 0 {
+                break (Event::ReadStoppedSpent, End::Stands { on: array });
+            }
+            left -= 1;
             let reason = self.reason(at, index);
             compared(array, at, reason);
             match reason.relation() {
@@ -197,14 +214,20 @@ impl<'w, W: Watch> Simplifier<'w, W> {
                 }
             }
         };
-        self.watch_walk(from, array, event);
+        self.watch_walk(from, array, event, left);
         end
     }
 
-    fn watch_walk(&mut self, from: Ref, reached: Ref, end: Event) {
+    fn watch_walk(&mut self, from: Ref, reached: Ref, end: Event, left: u64) {
         self.watch.saw(end);
         if from != reached {
             self.watch.saw(Event::ReadPassedStores);
+        }
+        match end {
+            Event::ReadMetSame if left == 0 => self.watch.saw(Event::ReadMetSameLast),
+            Event::ReadStoppedUndecided if left == 0 => self.watch.saw(Event::ReadUndecidedLast),
+            Event::ReadStoppedAtFresh if left == 0 => self.watch.saw(Event::ReadSpentAtFresh),
+            _ => {}
         }
     }
 
@@ -250,3 +273,6 @@ impl<'w, W: Watch> Simplifier<'w, W> {
         one.plus(other, self.width, self.watch)
     }
 }
+
+#[cfg(test)]
+mod tests;

@@ -5,7 +5,7 @@ use crate::bytes::{numbers, sources, table_bytes, table_length, MOST_ROWS};
 use crate::check::{check_header, check_rows};
 use crate::row::{Ref, Row};
 use crate::word::Width;
-use crate::{ask, run, why, Answer};
+use crate::{ask, run, why, Answer, HIGHEST_LIMIT};
 use std::io::{self, Read};
 
 /// Room for every list: 256 bytes for each of at most 1,023 stores compared, and 256 more.
@@ -20,10 +20,10 @@ pub fn read_table() -> io::Result<Vec<u8>> {
     Ok(table)
 }
 
-/// What `show` prints for a table.
-pub fn shown(table: &[u8]) -> String {
+/// What `show` prints for a table, with this limit on what its reads compare.
+pub fn shown(table: &[u8], limit: u64) -> String {
     let mut result = vec![0; table.len()];
-    let answer = run(table, &mut result);
+    let answer = run(table, &mut result, limit);
     if answer.refusal != 0 {
         return refusal_line(answer);
     }
@@ -51,7 +51,7 @@ pub fn listed(table: &[u8], row: u64) -> String {
 /// is the question's own, also where the run was refused.
 pub fn compared(table: &[u8], first: u64, second: u64) -> String {
     let mut result = vec![0; table.len()];
-    run(table, &mut result);
+    run(table, &mut result, HIGHEST_LIMIT);
     let comparison = ask(table, &result, first, second);
     if comparison.answer.refusal != 0 {
         return refusal_line(comparison.answer);

@@ -6,7 +6,10 @@ use crate::row::{Ref, Row};
 use crate::simplify::{End, Simplifier};
 use crate::text::row_line;
 use crate::watch::Watch;
-use crate::{answered, check_lent, check_number, counts, simplified, write_result, Answer};
+use crate::{
+    answered, check_lent, check_number, counts, simplified, write_result, Answer, Counts,
+    HIGHEST_LIMIT,
+};
 
 #[derive(Clone, Copy, PartialEq, Eq, Debug)]
 pub struct Listing {
@@ -31,13 +34,14 @@ pub fn why_watched(
         let Row::Read { array, index } = rows[read] else {
             return Err(Refused { number: 17, row });
         };
-        let mut outcome = simplified(header, &rows, watch);
+        let mut outcome = simplified(header, &rows, HIGHEST_LIMIT, watch);
         let sources = sources(table);
         let lines = lines(&mut outcome, &sources, read, array, index);
         length = lines.len();
         list.get_mut(..length).ok_or(refused(22))?.copy_from_slice(lines.as_bytes());
         write_result(result, table, outcome.rows(), &sources);
-        Ok(counts(&rows, outcome.rows(), header.rows))
+        // It takes no limit and does not count what is compared.
+        Ok(Counts { compared: 0, ..counts(&rows, &outcome, header.rows) })
     })());
     Listing { answer, length: length as u64 }
 }

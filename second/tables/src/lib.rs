@@ -8,4 +8,5 @@ pub mod machine;
 pub mod names;
 pub mod random;
 pub mod sources;
+pub mod stores;
 pub mod wellformed;

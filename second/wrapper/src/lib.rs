@@ -5,6 +5,9 @@ mod refusal;
 
 pub use refusal::Refusal;
 
+/// The highest limit that a run or an edit takes; with it no read is kept from comparing a store.
+pub const LIMIT: u64 = 1024;
+
 /// An accepted call.
 #[derive(Clone, Copy, PartialEq, Eq, Debug)]
 pub struct Done {
@@ -12,6 +15,8 @@ pub struct Done {
     pub removed: u64,
     /// Rows that were worked out.
     pub touched: u64,
+    /// Stores that the READ rows among them were compared with; of `why` 0.
+    pub compared: u64,
 }
 
 /// What is known of two word rows.
@@ -22,16 +27,19 @@ pub enum Relation {
     Apart,
 }
 
-/// Simplifies `table` into the first bytes of `result`.
-pub fn run(table: &[u8], result: &mut [u8]) -> Result<Done, Refusal> {
-    outcome(numbers::run(table, result))
+/// Simplifies `table` into the first bytes of `result`. Each READ is compared with at most `limit`
+/// stores.
+pub fn run(table: &[u8], result: &mut [u8], limit: u64) -> Result<Done, Refusal> {
+    outcome(numbers::run(table, result, limit))
 }
 
-/// Replaces row `row` of `table` and works out what depends on it in the kept result.
+/// Replaces row `row` of `table` and works out what depends on it in the kept result, each READ with
+/// at most `limit` stores. With the limit that the kept result was made with, the outcome is that of a
+/// fresh run.
 pub fn edit(
-    table: &mut [u8], kept: &mut [u8], row: u64, replacement: &[u8],
+    table: &mut [u8], kept: &mut [u8], row: u64, replacement: &[u8], limit: u64,
 ) -> Result<Done, Refusal> {
-    outcome(numbers::edit(table, kept, row, replacement))
+    outcome(numbers::edit(table, kept, row, replacement, limit))
 }
 
 /// What is known of two word rows of `table`, by their rows in its kept result. Both buffers are only
@@ -62,7 +70,10 @@ fn outcome(answer: numbers::Answer) -> Result<Done, Refusal> {
 /// The outcome of a call that has a list of this length, or none and 0.
 fn listed(answer: numbers::Answer, length: u64) -> Result<Done, Refusal> {
     match Refusal::from_numbers(answer.refusal, answer.row, length) {
-        None => Ok(Done { removed: answer.removed, touched: answer.touched }),
+        None => {
+            let numbers::Answer { removed, touched, compared, .. } = answer;
+            Ok(Done { removed, touched, compared })
+        }
         Some(refusal) => Err(refusal),
     }
 }

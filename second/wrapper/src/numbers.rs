@@ -7,6 +7,7 @@ pub struct Answer {
     pub row: u64,
     pub removed: u64,
     pub touched: u64,
+    pub compared: u64,
 }
 
 #[repr(C)]
@@ -25,11 +26,11 @@ pub struct Listing {
 
 extern "C" {
     fn stezkoun_run(
-        table: *const u8, table_len: usize, result: *mut u8, result_len: usize,
+        table: *const u8, table_len: usize, result: *mut u8, result_len: usize, limit: u64,
     ) -> Answer;
     fn stezkoun_edit(
         table: *mut u8, table_len: usize, kept: *mut u8, kept_len: usize, row: u64,
-        replacement: *const u8, replacement_len: usize,
+        replacement: *const u8, replacement_len: usize, limit: u64,
     ) -> Answer;
     fn stezkoun_ask(
         table: *const u8, table_len: usize, kept: *const u8, kept_len: usize, first: u64,
@@ -44,11 +45,11 @@ extern "C" {
 // Slices are never null, and the borrow rules keep a buffer that is written to from overlapping
 // another: that is all the C functions ask of their callers.
 
-pub fn run(table: &[u8], result: &mut [u8]) -> Answer {
-    unsafe { stezkoun_run(table.as_ptr(), table.len(), result.as_mut_ptr(), result.len()) }
+pub fn run(table: &[u8], result: &mut [u8], limit: u64) -> Answer {
+    unsafe { stezkoun_run(table.as_ptr(), table.len(), result.as_mut_ptr(), result.len(), limit) }
 }
 
-pub fn edit(table: &mut [u8], kept: &mut [u8], row: u64, replacement: &[u8]) -> Answer {
+pub fn edit(table: &mut [u8], kept: &mut [u8], row: u64, replacement: &[u8], limit: u64) -> Answer {
     unsafe {
         stezkoun_edit(
             table.as_mut_ptr(),
@@ -58,6 +59,7 @@ pub fn edit(table: &mut [u8], kept: &mut [u8], row: u64, replacement: &[u8]) -> 
             row,
             replacement.as_ptr(),
             replacement.len(),
+            limit,
         )
     }
 }

@@ -22,6 +22,7 @@ pub enum Refusal {
     KeptResult,
     NotARead { row: u64 },
     OtherBounds { row: u64 },
+    LimitTooHigh,
     ListTooShort { length: u64 },
 }
 
@@ -47,6 +48,7 @@ impl Refusal {
             16 => Refusal::KeptResult,
             17 => Refusal::NotARead { row },
             18 => Refusal::OtherBounds { row },
+            19 => Refusal::LimitTooHigh,
             22 => Refusal::ListTooShort { length },
             other => unreachable!("libstezkoun gave refusal {other}"),
         })

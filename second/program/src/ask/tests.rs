@@ -7,15 +7,19 @@ use crate::reason::Relation;
 use crate::row::{Row, Sort};
 use crate::text::{compared, packed};
 use crate::word::Width;
-use crate::{edit, run, simplified};
+use crate::{edit, run, simplified, HIGHEST_LIMIT};
 
 fn rows(text: &str) -> Vec<u8> {
     packed(&format!("width 8; {text}")).expect("rows as text")
 }
 
 fn own(table: &[u8]) -> Vec<u8> {
+    own_within(table, HIGHEST_LIMIT)
+}
+
+fn own_within(table: &[u8], limit: u64) -> Vec<u8> {
     let mut result = vec![0; table.len()];
-    assert_eq!(run(table, &mut result).refusal, 0);
+    assert_eq!(run(table, &mut result, limit).refusal, 0);
     result
 }
 
@@ -23,7 +27,7 @@ fn own(table: &[u8]) -> Vec<u8> {
 fn told(table: &[u8], kept: &[u8], numbers: [u64; 2]) -> String {
     let comparison = ask(table, kept, numbers[0], numbers[1]);
     let answer = comparison.answer;
-    assert_eq!([answer.removed, answer.touched], [0, 0], "no run is made");
+    assert_eq!([answer.removed, answer.touched, answer.compared], [0; 3], "no run is made");
     if answer.refusal != 0 {
         assert_eq!(comparison.relation(), Relation::NotKnown, "on a refusal");
         return format!("refused {} row {}", answer.refusal, answer.row);
@@ -46,22 +50,23 @@ const TABLES: [&str; 4] = [
 
 #[test]
 fn over_its_own_result_a_table_is_told_what_the_run_itself_knows() {
-    for text in TABLES {
+    for (text, limit) in TABLES.iter().flat_map(|text| [0, 1, 1024].map(|limit| (text, limit))) {
         let table = rows(text);
+        let kept = own_within(&table, limit);
         let header = check_header(&table).expect("a table");
         let decoded = check_rows(&table, header).expect("a table");
         let mut watch = ();
-        let mut outcome = simplified(header, &decoded, &mut watch);
+        let mut outcome = simplified(header, &decoded, limit, &mut watch);
         let words = (0..decoded.len()).filter(|row| decoded[*row].sort() == Sort::Word);
         let words: Vec<usize> = words.collect();
         for first in &words {
             for second in &words {
-                let comparison = ask(&table, &own(&table), *first as u64, *second as u64);
+                let comparison = ask(&table, &kept, *first as u64, *second as u64);
                 assert_eq!(comparison.answer.refusal, 0);
                 assert_eq!(
                     comparison.reason,
                     outcome.reason(*first, *second),
-                    "rows {first} and {second} of {text}"
+                    "rows {first} and {second} of {text}, limit {limit}"
                 );
             }
         }
@@ -99,11 +104,11 @@ fn reasons_of_p1() {
 fn after_an_edit_its_kept_result_is_asked() {
     let (mut table, mut kept) = (rows(P1), own(&rows(P1)));
     let wide = rows("VAR 0 250");
-    assert_eq!(edit(&mut table, &mut kept, 0, &wide[place(0)]).refusal, 0);
+    assert_eq!(edit(&mut table, &mut kept, 0, &wide[place(0)], HIGHEST_LIMIT).refusal, 0);
     assert_eq!(told(&table, &kept, [2, 7]), "not known, undecided");
     assert_eq!(told(&table, &kept, [2, 6]), "same, same place");
     let high = rows("CONST 245");
-    assert_eq!(edit(&mut table, &mut kept, 3, &high[place(0)]).refusal, 0);
+    assert_eq!(edit(&mut table, &mut kept, 3, &high[place(0)], HIGHEST_LIMIT).refusal, 0);
     assert_eq!(
         told(&table, &kept, [2, 7]),
         "apart, separate ranges, 0..242, 248..255 and 245..245"

@@ -10,20 +10,26 @@ index-at-requires c κs = search row-reached
 walk-requires : tie.Need-walk-requires
 walk-requires c κs = search needs
 
-enum-known-c : tie.Need-enum-known-c
-enum-known-c c = search needs
+enum-known-landing : tie.Need-enum-known-landing
+enum-known-landing c = search needs
 
 shift-rule-requires : tie.Need-shift-rule-requires
 shift-rule-requires c κs = search found-below
 
-enum-known-n : tie.Need-enum-known-n
-enum-known-n c = search needs
+make-requires : tie.Need-make-requires
+make-requires c κs = search needs
+
+enum-known-landing-2 : tie.Need-enum-known-landing-2
+enum-known-landing-2 c = search needs
 
 plain-name-requires : tie.Need-plain-name-requires
 plain-name-requires c κs = search needs
 
-make-requires : tie.Need-make-requires
-make-requires c κs = search needs
+make-requires-2 : tie.Need-make-requires-2
+make-requires-2 c κs = search needs
+
+make-requires-3 : tie.Need-make-requires-3
+make-requires-3 c κs = search needs
 
 returns : tie.Need-returns
 returns c = search read-found
@@ -37,10 +43,12 @@ read-rule-spec =
     (tie.spec
     index-at-requires
     walk-requires
-    enum-known-c
+    enum-known-landing
     shift-rule-requires
-    enum-known-n
-    plain-name-requires
     make-requires
+    enum-known-landing-2
+    plain-name-requires
+    make-requires-2
+    make-requires-3
     returns
     returns-2)

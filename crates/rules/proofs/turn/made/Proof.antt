@@ -6,6 +6,9 @@ use Rattle.rules.proofs.turn.made.Tie as tie
 make-requires : tie.Need-make-requires
 make-requires c κs = search needs
 
+at-once-requires : tie.Need-at-once-requires
+at-once-requires c κs = search needs
+
 returns : tie.Need-returns
 returns c = search made-later
 
@@ -19,4 +22,6 @@ returns-2 : tie.Need-returns-2
 returns-2 c = search made-own
 
 pub made-spec : {M : Type 1} → statement M
-made-spec = tie.close (tie.spec make-requires returns decode-requires rewrite-requires returns-2)
+made-spec =
+    tie.close
+    (tie.spec make-requires at-once-requires returns decode-requires rewrite-requires returns-2)

@@ -21,6 +21,9 @@ returns c = search settle-made
 decode-requires : tie.Need-decode-requires
 decode-requires c κs = search needs
 
+at-once-requires : tie.Need-at-once-requires
+at-once-requires c κs = search needs
+
 same-length-2 : tie.Need-same-length-2
 same-length-2 c = search needs
 
@@ -37,5 +40,6 @@ settle-spec =
     same-length
     returns
     decode-requires
+    at-once-requires
     same-length-2
     returns-2)

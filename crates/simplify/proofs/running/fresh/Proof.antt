@@ -1,5 +1,5 @@
-use Rattle.simplify.proofs.FreshRun.{copies, header-fits, all-ones, fresh-asks, fresh-done}
 use borrow.Author.Needs.{needs}
+use Rattle.simplify.proofs.FreshRun.{copies, header-fits, all-ones, fresh-asks, fresh-done}
 use Rattle.simplify.proofs.running.fresh.Statement.{statement}
 use Rattle.simplify.proofs.running.fresh.Tie as tie
 
@@ -13,13 +13,13 @@ rows-of-requires : tie.Need-rows-of-requires
 rows-of-requires c κs = search header-fits
 
 renew-requires : tie.Need-renew-requires
-renew-requires c κs = fresh-asks _ _ _ (c .before .before .before .before .before .before .before .before .before .before .before .pre) all-ones (c .before .width-of .ensures) (c .rows-of .ensures) (c .before .before .before .before .before .before .before .copy .ensures)
+renew-requires c κs = search (all-ones, fresh-asks)
 
 same-length : tie.Need-same-length
 same-length c = search needs
 
 returns : tie.Need-returns
-returns c = fresh-done _ _ _ (c .before .before .before .before .before .before .before .before .before .before .before .before .before .before .pre) all-ones (c .before .before .before .before .width-of .ensures) (c .before .before .before .rows-of .ensures) (c .before .before .before .before .before .before .before .before .before .before .copy .ensures) (c .before .before .renew .ensures)
+returns c = search (all-ones, fresh-done)
 
 pub fresh-spec : {M : Type 1} → statement M
 fresh-spec =

@@ -1,0 +1,2 @@
+-- What the parts of this crate ask and leave.
+pub mod Needed

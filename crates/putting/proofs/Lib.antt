@@ -1,0 +1,2 @@
+-- Laws of a row put into bytes.
+pub mod Steps

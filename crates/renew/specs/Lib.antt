@@ -1,0 +1,2 @@
+-- What the loop over rows asks, and what it leaves.
+pub mod Renew

@@ -1,0 +1,3 @@
+-- Laws of the program's arguments.
+pub mod Limits
+pub mod Examples

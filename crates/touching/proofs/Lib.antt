@@ -1,0 +1,3 @@
+-- Laws of the rows that an edit touches.
+pub mod Following
+pub mod Marking
