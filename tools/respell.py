@@ -43,7 +43,7 @@ def snake(name):
 
 
 def names():
-    own, elsewhere = {}, set()
+    own, elsewhere, defined = {}, set(), set()
     for path in walk(".antt", ".rt"):
         text = read(path)
         for module, listed in OPENED.findall(text.replace("ghost use", "use")):
@@ -54,13 +54,15 @@ def names():
             for listed in DECLARED.findall(text):
                 for name in listed.split():
                     own[name] = snake(name)
+                    if "/specs/" in path:
+                        defined.add(name)
     own = {old: new for old, new in own.items() if old not in elsewhere}
     map = {old: new for old, new in own.items() if old != new}
     # names that would fall together, or have a function's name: a lemma, which had dashes, gets _lem
     functions = {n for path in walk(".rt") for n in re.findall(r"\b(?:fn|const) (\w+)", read(path))}
     definitions = {snake(n) for n in BY_PORT} | {new for old, new in map.items() if "-" not in old}
     for old, new in own.items():
-        if ("-" in old and (new in definitions or new in functions)) or (old == new and old in definitions and old not in map and old not in {snake(n) for n in BY_PORT}):
+        if ("-" in old and old not in defined and (new in definitions or new in functions)) or (old == new and old in definitions and old not in map and old not in {snake(n) for n in BY_PORT}):
             map[old] = new + "_lem"
     return map
 

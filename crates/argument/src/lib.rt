@@ -1,9 +1,14 @@
 // What the arguments of a program give: numbers and known words.
-ghost use Rattle.std.specs.Prelude.{◌≡◌};
+#![tactic(auto)]
+
+ghost use Rattle.std.specs.Prelude.{◌≡◌, ◌≤◌, length};
 ghost use Rattle.argument.specs.Argument.{same_word, is_digit, number_of};
 
+use std::env::FillError;
+use std::rt::Env;
+
 // What an argument reads as.
-#[derive(Drop)]
+#[derive(Clone, Copy)]
 pub enum Parsed {
     Number(u64),
     Nothing,
@@ -67,10 +72,31 @@ pub fn number(word: &[u8]) -> Parsed
     Parsed::Number(value)
 }
 
-// The number that argument i of the program gives; argument 0 is the program's name. One that is missing, or longer than the buffer, comes as an
-// empty one.
-pub fn number_at(i: usize) -> Parsed {
+// Copies argument i of the program into `word` and answers its length; argument 0 is the program's name. One that is missing, or longer than the
+// buffer, comes as an empty one.
+pub fn word_at<R: Env>(rt: &R, i: usize, word: &mut [u8]) -> usize
+    ensures { result ≤ length word.new }
+{
+    match rt.arg(i, word) {
+        Ok(size) => size,
+        Err(_) => 0,
+    }
+}
+
+// How many arguments the program has. The program's name is counted too.
+pub fn count<R: Env>(rt: &R) -> usize {
+    let mut none = [0u8; 0];
+    for i in 0..usize::MAX {
+        if let Err(FillError::NotPresent) = rt.arg(i, &mut none) {
+            return i;
+        }
+    }
+    usize::MAX
+}
+
+// The number that argument i of the program gives.
+pub fn number_at<R: Env>(rt: &R, i: usize) -> Parsed {
     let mut word = [0u8; DIGITS];
-    let size = os::arg(i, &mut word);
+    let size = word_at(rt, i, &mut word);
     number(&word[..size])
 }

@@ -1,1 +1,2 @@
 // No code: the definitions and laws that every layer shares.
+#![tactic(auto)]

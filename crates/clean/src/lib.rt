@@ -1,4 +1,6 @@
 // Rows without a fault, told at once by their kind. Which fault another row has, if any, is told by `faults`.
+#![tactic(auto)]
+
 ghost use Rattle.std.specs.Prelude.{◌≡◌, ◌≤◌, length};
 ghost use Rattle.row.specs.Names.{place};
 ghost use Rattle.table.specs.Uses.{uses_of};

@@ -1,4 +1,6 @@
 // Bytes from one lent slice to another.
+#![tactic(auto)]
+
 ghost use Rattle.std.specs.Prelude.{◌≡◌, take, drop};
 ghost use Rattle.std.proofs.lemmas.List.Edits.{sets};
 ghost use Rattle.copying.specs.Copy.{Rooms};

@@ -29,8 +29,8 @@ beyond t x y = leb (rows t) x || leb (rows t) y
 pub record PairAsked (t kept : List ℕ) (x y : ℕ) : Type 0 where
   pub table : check_table t ≡ accepted
   pub room : length t ≤ length kept
-  pub first_row_lem : x < rows t
-  pub second_row_lem : y < rows t
+  pub first_row : x < rows t
+  pub second_row : y < rows t
 
 -- nor does 16
 pub record PairKept (t kept : List ℕ) (x y : ℕ) : Type 0 where
@@ -59,8 +59,8 @@ module _ (t kept : List ℕ) (x y : ℕ) where
       record {
         table = p.table;
         room = p.room;
-        first_row_lem = leb-false (rows t) x (or_left (leb (rows t) x) (leb (rows t) y) p.within);
-        second_row_lem = leb-false (rows t) y (or_right (leb (rows t) x) (leb (rows t) y) p.within);
+        first_row = leb-false (rows t) x (or_left (leb (rows t) x) (leb (rows t) y) p.within);
+        second_row = leb-false (rows t) y (or_right (leb (rows t) x) (leb (rows t) y) p.within);
       }
 
   -- what decides then: 16 and 14
@@ -68,7 +68,7 @@ module _ (t kept : List ℕ) (x y : ℕ) where
   unfolding ask_verdict pair_reasons
   asked_on a =
       passes t kept (beyond t x y)
-      (record { table = a.table; room = a.room; within = or_false _ _ (lt-leb (rows t) x a.first_row_lem) (lt-leb (rows t) y a.second_row_lem) }) _
+      (record { table = a.table; room = a.room; within = or_false _ _ (lt-leb (rows t) x a.first_row) (lt-leb (rows t) y a.second_row) }) _
 
   kept_on : PairKept t kept x y → ask_verdict t kept x y ≡ array_verdict t x y
   kept_on k = asked_on k.asked ∙ kept_goes t (kept_part t kept) (array_verdict t x y) k.right

@@ -1,4 +1,6 @@
 // The faults of one row, 9 to 15 and 18.
+#![tactic(auto)]
+
 ghost use Rattle.std.specs.Prelude.{◌≡◌, ◌<◌, ◌≤◌, not, ◌&&◌, take, leb};
 ghost use Rattle.basis.specs.Reason.{first};
 ghost use Rattle.row.specs.Bytes.{row_at};

@@ -1,4 +1,6 @@
 // Numbers in lent bytes, little endian.
+#![tactic(auto)]
+
 ghost use Rattle.std.specs.Prelude.{◌≡◌, ◌+◌, ◌<◌, ◌≤◌, ◌^◌, length};
 ghost use Rattle.std.proofs.lemmas.List.Edits.{sets};
 ghost use Rattle.in_bytes.specs.Numbers.{byte, number, bytes, Read};

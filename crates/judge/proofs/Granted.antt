@@ -99,8 +99,8 @@ pair_ready t kept x y zero_first =
     let seven = (first_none (7 when (leb (rows t) x || leb (rows t) y) ∷ []) refl (append_second (room_reasons t kept) _ (room_numbered t kept) zero_first)).0 in
     record {
       there = record { head = is.head; room = is.room };
-      first_row_lem = leb-false (rows t) x (or_left (leb (rows t) x) (leb (rows t) y) seven);
-      second_row_lem = leb-false (rows t) y (or_right (leb (rows t) x) (leb (rows t) y) seven);
+      first_row = leb-false (rows t) x (or_left (leb (rows t) x) (leb (rows t) y) seven);
+      second_row = leb-false (rows t) y (or_right (leb (rows t) x) (leb (rows t) y) seven);
     }
 
 -- nor do 16 and 14, where the rows pass too

@@ -202,7 +202,7 @@ module _ {t kept : List ℕ} {x y : ℕ} (at : PairThere t kept x y) where
   pair_kept = at.there
 
   pub pair_place : place x + LENGTH ≤ length t
-  pair_place = room_in t at.first_row_lem (kept_holding at.there).size
+  pair_place = room_in t at.first_row (kept_holding at.there).size
 
   pub pair_place_second : place y + LENGTH ≤ length t
-  pair_place_second = room_in t at.second_row_lem (kept_holding at.there).size
+  pair_place_second = room_in t at.second_row (kept_holding at.there).size

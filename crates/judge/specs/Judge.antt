@@ -31,5 +31,5 @@ pub record KeptThere (t kept : List ℕ) : Type 0 where
 -- the same, and two rows of the table
 pub record PairThere (t kept : List ℕ) (x y : ℕ) : Type 0 where
   pub there : KeptThere t kept
-  pub first_row_lem : x < rows t
-  pub second_row_lem : y < rows t
+  pub first_row : x < rows t
+  pub second_row : y < rows t

@@ -1,4 +1,6 @@
 // Which refusal an input gets: document 01's table of refusals, in its order.
+#![tactic(auto)]
+
 mod calls;
 mod kept;
 

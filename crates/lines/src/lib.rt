@@ -1,4 +1,6 @@
 // The lines that are printed, written into a slice that the caller lends.
+#![tactic(auto)]
+
 ghost use Rattle.std.specs.Prelude.{◌+◌, ◌*◌, ◌<◌, ◌^◌, length};
 ghost use Rattle.text.specs.Text.{Put};
 ghost use Rattle.lines.specs.Lines.{named, pair, head, refusal, line, lines, SHORT, LINE, Chunk};

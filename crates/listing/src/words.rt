@@ -57,8 +57,8 @@ fn put_indexes(
 
 // Writes the line of a store that was recorded at instruction `source` and compared with index row i.
 pub fn put_store(out: &mut [u8], at: usize, top: u64, source: u64, i: usize, s: Met) -> usize
-    requires fact_1 { at < 2 ^ 32 }
-    requires fact_2 { Numbered source i s }
+    requires place { at < 2 ^ 32 }
+    requires numbered { Numbered source i s }
     ensures { Put out.old at (store_line (top + 1) source i s) 256 out.new result }
 {
     let why = s.why;

@@ -1,4 +1,6 @@
 // Marks of rows, a bit for each: row x has bit x % 64 of word x / 64.
+#![tactic(auto)]
+
 ghost use Rattle.std.specs.Prelude.{◌≡◌, ◌<◌};
 ghost use Rattle.table.specs.Refusals.{MOST};
 ghost use Rattle.marks.specs.Marks.{marked, none_beside, ones_of, Words, HasBit, Remarked};

@@ -1,1 +1,2 @@
 // No code: what rows mean, and that the rules keep it.
+#![tactic(auto)]

@@ -1,4 +1,6 @@
 // Names of variables: which name a row states, and the first row that states it.
+#![tactic(auto)]
+
 ghost use Rattle.std.specs.Prelude.{◌≡◌, ◌+◌, ◌≤◌, length};
 ghost use Rattle.row.specs.Names.{LENGTH, place};
 ghost use Rattle.in_bytes.specs.Numbers.{Read};

@@ -84,7 +84,7 @@ module _ (R marks S : List ℕ) (w r : ℕ) (can : CanKeep R marks w r S) where
 
         -- all that the store has are ranges of words
         words : WordsProper (2 ^ w) (kept S) (look R r)
-        words = names_widen (look R r) (λ (s : Bool) (y : ℕ) (at : Below (look R) r s y) (word : s ≡ false). keeping.store.proper y) (keeping.formed.names r)
+        words = names_widen {W = λ s y. s ≡ false → Proper (2 ^ w) (kept S y)} (look R r) (λ (s : Bool) (y : ℕ) (at : Below (look R) r s y) (word : s ≡ false). keeping.store.proper y) (keeping.formed.names r)
 
         pub keep_asks : Ranging S w r (term_of x)
         keep_asks =
@@ -114,7 +114,7 @@ module _ (R marks S : List ℕ) (w r : ℕ) (can : CanKeep R marks w r S) where
               (λ (y : ℕ) (m : (y < r) × (marked marks y ≡ true)). keeping.ranges y m.0 (omega (arith, m.0, can.few)) m.1)
               (rests_both (λ y. y < r) (λ y. marked marks y ≡ true) (look R r)
               (names_rest (λ y. y < r) (look R r)
-              (names_widen (look R r) (λ (s : Bool) (y : ℕ) (at : Below (look R) r s y) (word : s ≡ false). at.below) (keeping.formed.names r)))
+              (names_widen {W = λ s y. s ≡ false → y < r} (look R r) (λ (s : Bool) (y : ℕ) (at : Below (look R) r s y) (word : s ≡ false). at.below) (keeping.formed.names r)))
               (keeping.needs.closed r (omega arith) can.few here))
 
           range_is : a ≡ range_of (2 ^ w) (look R) r
@@ -180,8 +180,8 @@ module _ (R : List ℕ) (w x y : ℕ) (S : List ℕ) (two : TwoWords R w x y) (s
 
   pub two_kept : {S' : List ℕ} → Keeping R marks w MOST S' → TwoKept R w x y S'
   two_kept done =
-      let x_few : x < MOST = two.first_row_lem.there.few in
-      let y_few : y < MOST = two.second_row_lem.there.few in
+      let x_few : x < MOST = two.first_row.there.few in
+      let y_few : y < MOST = two.second_row.there.few in
       record {
         first_range = done.ranges x x_few x_few (needed.stay x (first_there R w x y two set again));
         second_range = done.ranges y y_few y_few (needed.stay y (second_there R w x y two set again));

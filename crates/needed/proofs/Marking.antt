@@ -267,23 +267,23 @@ module _ {R marks : List ℕ} where
 
 module _ (R : List ℕ) (w x y : ℕ) (two : TwoWords R w x y) where
   pub two_bit : HasBit (replicate 16 0) x
-  two_bit = record { words = none_words; below = two.first_row_lem.there.few }
+  two_bit = record { words = none_words; below = two.first_row.there.few }
 
   none_yet : Grown R MOST (replicate 16 0) (replicate 16 0)
   none_yet = grown_none R (replicate 16 0) MOST none_words (λ z l m. absurd (true≢false (sym m ∙ none_marked z l)))
 
   module _ {one : List ℕ} (set : Remarked (replicate 16 0) x true one) where
     first_grown : Grown R MOST (replicate 16 0) one
-    first_grown = grown_mark R MOST (replicate 16 0) none_yet two.first_row_lem.there.few two.first_row_lem set
+    first_grown = grown_mark R MOST (replicate 16 0) none_yet two.first_row.there.few two.first_row set
 
     pub two_bit_second : HasBit one y
-    two_bit_second = record { words = set.words; below = two.second_row_lem.there.few }
+    two_bit_second = record { words = set.words; below = two.second_row.there.few }
 
     module _ {both : List ℕ} (again : Remarked one y true both) where
       pub two_needs : Needing R MOST both
       two_needs =
           let grown : Grown R MOST (replicate 16 0) both =
-          grown_mark R MOST (replicate 16 0) first_grown two.second_row_lem.there.few two.second_row_lem again in
+          grown_mark R MOST (replicate 16 0) first_grown two.second_row.there.few two.second_row again in
           record {
             names = two.formed.names;
             words = grown.words;
@@ -292,9 +292,9 @@ module _ (R : List ℕ) (w x y : ℕ) (two : TwoWords R w x y) where
           }
 
       pub second_there : marked both y ≡ true
-      second_there = here R MOST (replicate 16 0) first_grown two.second_row_lem.there.few two.second_row_lem again
+      second_there = here R MOST (replicate 16 0) first_grown two.second_row.there.few two.second_row again
 
       pub first_there : marked both x ≡ true
       first_there =
-          stays R MOST (replicate 16 0) first_grown two.second_row_lem.there.few two.second_row_lem again x
-          (here R MOST (replicate 16 0) none_yet two.first_row_lem.there.few two.first_row_lem set)
+          stays R MOST (replicate 16 0) first_grown two.second_row.there.few two.second_row again x
+          (here R MOST (replicate 16 0) none_yet two.first_row.there.few two.first_row set)

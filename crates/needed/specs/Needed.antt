@@ -19,8 +19,8 @@ pub record Word (R : List ℕ) (x : ℕ) : Type 0 where
 pub record TwoWords (R : List ℕ) (w x y : ℕ) : Type 0 where
   pub width : w ≤ 64
   pub formed : WellFormed (2 ^ w) (look R)
-  pub first_row_lem : Word R x
-  pub second_row_lem : Word R y
+  pub first_row : Word R x
+  pub second_row : Word R y
 
 -- ---- marking, from the last row down
 

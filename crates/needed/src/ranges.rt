@@ -36,8 +36,8 @@ fn keep_marked(res: &[u8], store: &mut [u64; 2048], marks: &[u64; 16], w: u32)
 
 // Keeps the ranges of rows x and y.
 pub fn keep_two(res: &[u8], store: &mut [u64; 2048], w: u32, x: usize, y: usize)
-    requires fact_1 { TwoWords res.now w x y }
-    requires fact_2 { Blank w store.old }
+    requires two_words { TwoWords res.now w x y }
+    requires blank { Blank w store.old }
     ensures { TwoKept res.now w x y store.new }
 {
     let mut marks = [0u64; 16];

@@ -8,8 +8,8 @@ use row::Row;
 
 // Marks the rows that the range of row r is made from. What a READ names is not among them: it ranges over every word.
 fn mark_below(res: &[u8], marks: &mut [u64; 16], r: usize)
-    requires fact_1 { Needing res.now (r + 1) marks.old }
-    requires fact_2 { Word res.now r }
+    requires needing { Needing res.now (r + 1) marks.old }
+    requires word { Word res.now r }
     ensures { Needed res.now marks.old r marks.new }
 {
     let x = Row::decode(res, r);

@@ -1,4 +1,6 @@
 // A row put into the bytes of a table, with the number of the instruction that it was recorded at.
+#![tactic(auto)]
+
 ghost use Rattle.std.specs.Prelude.{◌≡◌, ◌+◌, ◌≤◌, length, ◌++◌};
 ghost use Rattle.std.proofs.lemmas.List.Edits.{sets};
 ghost use Rattle.in_bytes.specs.Numbers.{bytes};

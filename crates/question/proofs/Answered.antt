@@ -63,16 +63,16 @@ blank w =
 
 module _ (R : List ℕ) (w x y : ℕ) (two : TwoWords R w x y) where
   pub why_first : place x + LENGTH ≤ length R
-  why_first = two.first_row_lem.there.room
+  why_first = two.first_row.there.room
 
   pub why_second : place y + LENGTH ≤ length R
-  why_second = two.second_row_lem.there.room
+  why_second = two.second_row.there.room
 
   pub why_reached : Reached R x
-  why_reached = two.first_row_lem.there
+  why_reached = two.first_row.there
 
   pub why_reached_second : Reached R y
-  why_reached_second = two.second_row_lem.there
+  why_reached_second = two.second_row.there
 
   abbrev told : Reason
   told = reason (look R) (range_of (2 ^ w) (look R)) x y
@@ -156,8 +156,8 @@ module _ (t kept : List ℕ) (x y : ℕ) where
               (record {
                 width = (good_head t ask_there.there.head).width_high;
                 formed = right_formed t (kept_part t kept) granted.right;
-                first_row_lem = word ask_there.first_row_lem granted.first_word;
-                second_row_lem = word ask_there.second_row_lem granted.second_word;
+                first_row = word ask_there.first_row granted.first_word;
+                second_row = word ask_there.second_row granted.second_word;
               })
 
           accepts : ask_verdict t kept x y ≡ accepted

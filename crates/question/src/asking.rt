@@ -23,8 +23,8 @@ fn compared(number: u64, row: u64, why: Reason) -> Comparison
 
 // Why of rows x and y, by the ranges that the store has.
 fn reason_by(res: &[u8], store: &[u64; 2048], x: usize, y: usize) -> Reason
-    requires fact_1 { Reached res.now x }
-    requires fact_2 { Reached res.now y }
+    requires x_reached { Reached res.now x }
+    requires y_reached { Reached res.now y }
     ensures { result ≡ reason (look res.now) (kept store.now) x y }
 {
     walks::reason(res, store, x, y, walks::index_at(res, store, y))

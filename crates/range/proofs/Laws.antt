@@ -1,5 +1,5 @@
 -- What other crates know of sums, negations and numbers that are shared. No statement here shows the ends of a range. Assumes nothing.
-use Rattle.std.proofs.Common.{◌≡◌, ℕ, ◌-◌, ◌<◌, ◌≤◌, true, false, not, ◌⊎◌, sym, ◌∙◌, inl, inr, ⊎_elim, true≢false, arith}
+use Rattle.std.proofs.Common.{◌≡◌, ℕ, ◌<◌, ◌≤◌, true, false, not, ◌⊎◌, sym, ◌∙◌, inl, inr, ⊎_elim, true≢false, arith}
 use mathlib.Core.Logic.{dite}
 use native.Mathlib.Decide.{dec_le}
 use borrow.Author.Tests.{not-true, not-false}

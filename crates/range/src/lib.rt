@@ -1,5 +1,7 @@
 // A range of words: all from lo to hi; or, where hi is below lo, the two pieces from 0 to hi and from lo to the top of the word. By value; the flat store keeps one
 // for each row.
+#![tactic(auto)]
+
 ghost use Rattle.std.specs.Prelude.{◌≡◌, ◌-◌, ◌^◌, ◌≤◌};
 ghost use Rattle.word.specs.Word.{minus};
 ghost use Rattle.range.specs.Range.{span, point, full, is_two, sum, negation, has, disjoint, Proper};
@@ -8,7 +10,7 @@ mod store;
 
 pub use store::{LENGTH, load, save};
 
-#[derive(Drop)]
+#[derive(Clone, Copy)]
 pub struct Range {
     pub lo: u64,
     pub hi: u64,
@@ -49,9 +51,9 @@ impl Range {
 
     // a + b: from the sum of the lower ends to that of the upper ones. Where that is all the way round, every word.
     pub fn sum(w: u32, a: Range, b: Range) -> Range
-        requires fact_1 { w ≤ 64 }
-        requires fact_2 { Proper (2 ^ w) a }
-        requires fact_3 { Proper (2 ^ w) b }
+        requires width { w ≤ 64 }
+        requires a_proper { Proper (2 ^ w) a }
+        requires b_proper { Proper (2 ^ w) b }
         ensures { result ≡ sum (2 ^ w) a b }
     {
         let top = word::top(w);
@@ -68,8 +70,8 @@ impl Range {
 
     // - a: from the negation of the upper end to that of the lower one. Every word stays every word.
     pub fn negation(w: u32, a: Range) -> Range
-        requires fact_1 { w ≤ 64 }
-        requires fact_2 { Proper (2 ^ w) a }
+        requires width { w ≤ 64 }
+        requires a_proper { Proper (2 ^ w) a }
         ensures { result ≡ negation (2 ^ w) a }
     {
         let top = word::top(w);
@@ -95,8 +97,8 @@ impl Range {
 
 // How far it is from the lower end up to the upper one, over the top where there are two pieces: one less than the numbers of a.
 fn size(w: u32, top: u64, a: Range) -> u64
-    requires fact_1 { w ≤ 64 }
-    requires fact_2 { top ≡ 2 ^ w - 1 }
+    requires width { w ≤ 64 }
+    requires top_known { top ≡ 2 ^ w - 1 }
     ensures { result ≡ minus (2 ^ w) a.hi a.lo }
 {
     std::num::wrapping_sub_u64(a.hi, a.lo) & top

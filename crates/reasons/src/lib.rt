@@ -1,5 +1,7 @@
 // Why two rows are the same, apart, or neither is known, as a person reads it: docs/WHY.md sets the words. They are written into a slice that the caller lends;
 // `top` is the largest word.
+#![tactic(auto)]
+
 ghost use Rattle.std.specs.Prelude.{◌+◌, ◌<◌, ◌≤◌, ◌^◌, ◌≡◌, ◌++◌, length};
 ghost use Rattle.pieces.specs.Pieces.{piece};
 ghost use Rattle.row.specs.Names.{HEADER};
@@ -13,8 +15,8 @@ use text::{put_byte, put_decimal, put_word};
 
 // The largest word of a table.
 pub fn top_of(t: &[u8]) -> u64
-    requires fact_1 { HEADER ≤ length t.now }
-    requires fact_2 { width t.now ≤ 64 }
+    requires header { HEADER ≤ length t.now }
+    requires width_fits { width t.now ≤ 64 }
     ensures { result + 1 ≡ 2 ^ width t.now }
 {
     word::top(table::width_of(t))

@@ -216,7 +216,7 @@ module _ (T R₀ S₀ marks : List ℕ) (w limit n : ℕ) (can : CanRenew T R₀
       -- the words that it names have their ranges in the store
       words : Names (λ s y. s ≡ false → kept S y ≡ range_of (2 ^ w) out y) (out r)
       words =
-          names_widen (out r)
+          names_widen {W = λ s y. s ≡ false → kept S y ≡ range_of (2 ^ w) out y} (out r)
           (λ s y (k : (y < r) × (is_array (look R' y) ≡ s)) (e : s ≡ false).
           at.ranges y k.0 (sym (out_sort y (lt_trans k.0 l)) ∙ ap is_array (sym (rows' y (lt_trans k.0 (lt-suc_self r)))) ∙ k.1 ∙ e))
           (names_both (λ s y. y < r) (λ s y. is_array (look R' y) ≡ s) (out r) (out_below r) (subst (SortsIn R') made (turn.sorted.sorts r (lt-suc_self r))))

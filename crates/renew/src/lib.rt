@@ -1,5 +1,7 @@
 // The loop that run and edit share: each marked row is worked out anew, in ascending order, from the result rows then standing. A read compares at most `limit`
 // stores.
+#![tactic(auto)]
+
 ghost use Rattle.std.specs.Prelude.{◌≡◌, cond, not, ◌&&◌};
 ghost use Rattle.term.specs.Term.{is_read};
 ghost use Rattle.term.specs.Bytes.{look};
@@ -9,7 +11,7 @@ ghost use Rattle.renew.specs.Renew.{CanTurn, Turned, CanRenew, Renewed};
 use row::Row;
 
 // How many rows are READ in the table and not in the result, and how many stores were compared.
-#[derive(Drop)]
+#[derive(Clone, Copy)]
 pub struct Counts {
     pub removed: u64,
     pub compared: u64,

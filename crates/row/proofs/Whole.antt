@@ -13,14 +13,14 @@ use borrow.Author.Tests.{eqb-true, not-false}
 use Rattle.basis.proofs.Pick.{or_left, or_right}
 use Rattle.in_bytes.specs.Numbers.{byte, number, bytes, AllBytes}
 use Rattle.in_bytes.proofs.Numbers.{number_below, bytes_number}
-use Rattle.row.specs.Names.{LENGTH, MARK_0_lem, MARK_1_lem, KIND, ZERO, A, B, C, K, H, SOURCE, place}
+use Rattle.row.specs.Names.{LENGTH, MARK_0, MARK_1, KIND, ZERO, A, B, C, K, H, SOURCE, place}
 use Rattle.row.specs.Bytes.{row_from, row_at, source_at, mark_wrong, head_of, bytes_of}
 
-pub mark_right : (t : List ℕ) (i : ℕ) → mark_wrong t i ≡ false → (byte t i ≡ MARK_0_lem) × (byte t (i + 1) ≡ MARK_1_lem) × (byte t (i + ZERO) ≡ 0)
+pub mark_right : (t : List ℕ) (i : ℕ) → mark_wrong t i ≡ false → (byte t i ≡ MARK_0) × (byte t (i + 1) ≡ MARK_1) × (byte t (i + ZERO) ≡ 0)
 unfolding mark_wrong
 mark_right t i e =
-    let first = not (eqb (byte t i) MARK_0_lem) in
-    let second = not (eqb (byte t (i + 1)) MARK_1_lem) in
+    let first = not (eqb (byte t i) MARK_0) in
+    let second = not (eqb (byte t (i + 1)) MARK_1) in
     let third = not (eqb (byte t (i + ZERO)) 0) in
     let both : (first || second) ≡ false = or_left (first || second) third e in (
       eqb-true _ _ (not-false _ (or_left first second both)),

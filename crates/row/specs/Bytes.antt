@@ -3,7 +3,7 @@ use Rattle.std.specs.Prelude.{ℕ, ◌+◌, ◌^◌, ◌<◌, ◌≡◌, Bool, n
 use Rattle.std.proofs.lemmas.List.Edits.{sets}
 use Rattle.in_bytes.specs.Numbers.{byte, number, bytes}
 use Rattle.row.specs.declared.Row.{Row}
-use Rattle.row.specs.Names.{MARK_0_lem, MARK_1_lem, KIND, ZERO, A, B, C, K, H, SOURCE, place}
+use Rattle.row.specs.Names.{MARK_0, MARK_1, KIND, ZERO, A, B, C, K, H, SOURCE, place}
 
 -- the row of these numbers
 abbrev pub row : ℕ → ℕ → ℕ → ℕ → ℕ → ℕ → Row
@@ -30,11 +30,11 @@ source_at t r = number 4 t (place r + SOURCE)
 
 -- the mark or the zero byte of the row that begins at `at` is wrong
 unfoldable pub mark_wrong : List ℕ → ℕ → Bool
-mark_wrong t at = not (eqb (byte t at) MARK_0_lem) || not (eqb (byte t (at + 1)) MARK_1_lem) || not (eqb (byte t (at + ZERO)) 0)
+mark_wrong t at = not (eqb (byte t at) MARK_0) || not (eqb (byte t (at + 1)) MARK_1) || not (eqb (byte t (at + ZERO)) 0)
 
 -- the bytes of a row: mark, kind and zero byte, then the numbers, last the source
 unfoldable pub head_of : ℕ → List ℕ
-head_of kind = MARK_0_lem ∷ MARK_1_lem ∷ kind ∷ 0 ∷ []
+head_of kind = MARK_0 ∷ MARK_1 ∷ kind ∷ 0 ∷ []
 
 unfoldable pub bytes_of : Row → ℕ → List ℕ
 bytes_of x source =

@@ -10,11 +10,11 @@ abbrev pub LENGTH : ℕ
 LENGTH = 30
 
 -- the two bytes of the mark
-abbrev pub MARK_0_lem : ℕ
-MARK_0_lem = 0x52
+abbrev pub MARK_0 : ℕ
+MARK_0 = 0x52
 
-abbrev pub MARK_1_lem : ℕ
-MARK_1_lem = 0x4F
+abbrev pub MARK_1 : ℕ
+MARK_1 = 0x4F
 
 -- the kinds
 abbrev pub CONST : ℕ

@@ -1,5 +1,7 @@
 // A row of a table: its numbers, and the bytes that they stand in. Beside them stands the number of the instruction that the row was recorded at, the row's
 // source: it goes with the row and is no part of what the row says, so `Row`, which the rules read and make, does not have it.
+#![tactic(auto)]
+
 ghost use Rattle.std.specs.Prelude.{◌≡◌, ◌+◌, ◌<◌, ◌≤◌, ◌^◌, length, ◌∷◌, []};
 ghost use Rattle.in_bytes.specs.Numbers.{Read};
 ghost use Rattle.row.specs.Names;
@@ -8,7 +10,7 @@ ghost use Rattle.row.specs.Bytes.{row, row_at, source_at, mark_wrong, Decoded};
 
 use in_bytes::{byte, eight, four, two};
 
-#[derive(Drop)]
+#[derive(Clone, Copy)]
 pub struct Row {
     pub kind: u8,
     pub a: usize,
@@ -84,7 +86,7 @@ impl Row {
     }
 
     fn named_kinds() -> [u8; 11]
-        ensures { result ≡ Names.MARK_0_lem ∷ Names.MARK_1_lem ∷ Names.CONST ∷ Names.VAR ∷ Names.SHIFT ∷ Names.SUM ∷ Names.DIFF ∷ Names.NEG ∷ Names.READ ∷ Names.FRESH ∷ Names.WRITE ∷ [] }
+        ensures { result ≡ Names.MARK_0 ∷ Names.MARK_1 ∷ Names.CONST ∷ Names.VAR ∷ Names.SHIFT ∷ Names.SUM ∷ Names.DIFF ∷ Names.NEG ∷ Names.READ ∷ Names.FRESH ∷ Names.WRITE ∷ [] }
     {
         [
             Row::MARK_0,

@@ -112,7 +112,7 @@ module _ (M : ℕ) (g : ℕ → Range) where
 pub words_proper : (M : ℕ) (R S : List ℕ) (r : ℕ) → Ranged M R S r
     → (t : Term) → NamesBelow r t → SortsIn R t → WordsProper M (kept S) t
 words_proper M R S r ranges t n m =
-    names_widen t
+    names_widen {W = λ s y. s ≡ false → Proper M (kept S y)} t
     (λ (s : Bool) (y : ℕ) (h : (y < r) × (is_array (look R y) ≡ s)) (e : s ≡ false). ranges.proper y h.0 (h.1 ∙ e))
     (names_both (λ s y. y < r) (λ s y. is_array (look R y) ≡ s) t n m)
 

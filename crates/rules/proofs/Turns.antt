@@ -169,10 +169,10 @@ module _ (T R S : List ℕ) (w limit r first : ℕ) (touched : Bool) (given : Ca
 
 -- ---- what stands after the turn
 
-module _ (T R R' S : List ℕ) (w limit r first : ℕ) (touched : Bool) (Made-row : Made)
-    (given : CanWrite T R S w r first touched) (done : Settled T R R' S w limit r touched Made-row) where
+module _ (T R R' S : List ℕ) (w limit r first : ℕ) (touched : Bool) (made_row : Made)
+    (given : CanWrite T R S w r first touched) (done : Settled T R R' S w limit r touched made_row) where
   abbrev x : Row
-  x = Made-row.row
+  x = made_row.row
 
   settled_length : length R' ≡ length R
   unfolding settled
@@ -256,7 +256,7 @@ module _ (T R R' S : List ℕ) (w limit r first : ℕ) (touched : Bool) (Made-ro
           ends = λ y l e. settled_entry fresh (point MOST) (entry_end (2 ^ w) (kept S)) given.links.ends y l e;
         }
 
-    pub turn_written : {compared : ℕ} → compared ≡ Made-row.compared → Written T R R' S S' w limit r touched compared
+    pub turn_written : {compared : ℕ} → compared ≡ made_row.compared → Written T R R' S S' w limit r touched compared
     turn_written counted =
         record {
           result = done.result;

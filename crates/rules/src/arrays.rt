@@ -24,8 +24,8 @@ pub fn read_rule(
     m: usize,
     i: usize,
 ) -> Made
-    requires fact_1 { Reading res.now w r m i }
-    requires fact_2 { Following res.now store.now r m }
+    requires reading { Reading res.now w r m i }
+    requires following { Following res.now store.now r m }
     ensures { Makes (2 ^ w) limit (look res.now) (kept store.now) (read m i) result }
 {
     let j = index_at(res, store, i);

@@ -1,5 +1,7 @@
 // The code of document 01's rules, straight on lent bytes. `result` holds the result rows, of which those below row r stand; `store` keeps
 // the ranges of words and what a walk asks of arrays; `limit` is the number of stores that a READ compares at most.
+#![tactic(auto)]
+
 mod arrays;
 mod ranges;
 mod turn;
@@ -13,7 +15,7 @@ use row::Row;
 pub use turn::write_row;
 
 // A result row, and how many stores were compared to make it.
-#[derive(Drop)]
+#[derive(Clone, Copy)]
 pub struct Made {
     pub row: Row,
     pub compared: usize,

@@ -15,8 +15,8 @@ use row::Row;
 
 // The result row of x, which stands as row r in the table.
 fn rewrite(res: &[u8], store: &[u64; 2048], w: u32, limit: usize, r: usize, x: Row) -> Made
-    requires fact_1 { Asked res.now w r (term_of x) }
-    requires fact_2 { Traced res.now store.now r (term_of x) }
+    requires asked { Asked res.now w r (term_of x) }
+    requires traced { Traced res.now store.now r (term_of x) }
     ensures { Makes (2 ^ w) limit (look res.now) (kept store.now) (term_of x) result }
 {
     let kind = x.kind;

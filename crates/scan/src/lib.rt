@@ -1,4 +1,6 @@
 // The check of a table: its head, then its rows one after another.
+#![tactic(auto)]
+
 ghost use Rattle.std.specs.Prelude.{◌≡◌};
 ghost use Rattle.basis.specs.Reason.{first};
 ghost use Rattle.table.specs.Refusals.{head_reasons, accepted, check_rows, check_table};

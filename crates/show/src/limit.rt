@@ -4,6 +4,7 @@ ghost use Rattle.show.specs.Limit.{within, limit_from};
 
 use argument::{DIGITS, Parsed};
 use judge::LIMIT;
+use std::rt::Env;
 
 // the bytes of `--limit`
 const WORD: usize = 7;
@@ -40,11 +41,11 @@ fn limit_from(count: usize, word: &[u8], value: &[u8]) -> Parsed
 }
 
 // The limit that the arguments give. One that is missing, or longer than its buffer, comes as an empty one; of a longer one the same is read
-// (`cut-reads-alike`).
-pub fn limit_asked() -> Parsed {
+// (`cut_reads_alike`).
+pub fn limit_asked<R: Env>(rt: &R) -> Parsed {
     let mut word = [0u8; WORD];
-    let size = os::arg(1, &mut word);
+    let size = argument::word_at(rt, 1, &mut word);
     let mut value = [0u8; DIGITS];
-    let digits = os::arg(2, &mut value);
-    limit_from(os::arg_count(), &word[..size], &value[..digits])
+    let digits = argument::word_at(rt, 2, &mut value);
+    limit_from(argument::count(rt), &word[..size], &value[..digits])
 }

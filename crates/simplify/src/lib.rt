@@ -1,4 +1,6 @@
 // Run and edit over lent bytes; and, for the tools that stand on a fresh run, the run itself and the answer of a refusal.
+#![tactic(auto)]
+
 mod editing;
 mod running;
 
@@ -6,7 +8,7 @@ pub use editing::edit;
 pub use running::{fresh, refused, run};
 
 #[repr(C)]
-#[derive(Drop)]
+#[derive(Clone, Copy)]
 pub struct Answer {
     pub refusal: u64,
     pub row: u64,

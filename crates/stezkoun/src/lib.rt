@@ -1,4 +1,6 @@
 // The door for C and Rust: include/stezkoun.h declares these functions. A slice comes in as a pointer and a length.
+#![tactic(auto)]
+
 ghost use Rattle.simplify.specs.Run.{Ran};
 ghost use Rattle.simplify.specs.Edit.{Edited};
 ghost use Rattle.explanation.specs.Why.{Explained};
@@ -12,7 +14,7 @@ use term::Relation;
 
 // A comparison's answer for C: 0 not known, 1 same, 2 apart.
 #[repr(C)]
-#[derive(Drop)]
+#[derive(Clone, Copy)]
 pub struct Numbers {
     pub answer: Answer,
     pub relation: u64,

@@ -23,6 +23,11 @@ pub no_kind_uses : (k : ℕ) → (k ≡ 0 → ⊥) → (k ≡ 1 → ⊥) → (k 
 unfolding uses_of
 no_kind_uses k a b c d e f g h i j = get_or-eq_default table (uses UNUSED UNUSED UNUSED false false) {n = k} (above_nine k (above_four k a b c d e) f g h i j)
 
+-- 0 is no kind
+pub kind_zero_uses : (k : ℕ) → k ≡ 0 → uses_of k ≡ uses UNUSED UNUSED UNUSED false false
+unfolding uses_of
+kind_zero_uses k e = rw e
+
 pub word_sort : (k : ℕ) → (k ≡ FRESH → ⊥) → (k ≡ WRITE → ⊥) → WORD ≡ sort_of k
 unfolding sort_of
 word_sort k a b = rw (ne_eqb k FRESH a, ne_eqb k WRITE b)

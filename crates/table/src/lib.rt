@@ -1,4 +1,6 @@
 // What a table states in its head, and what each kind uses.
+#![tactic(auto)]
+
 ghost use Rattle.std.specs.Prelude.{◌≡◌, ◌≤◌, length, eqb};
 ghost use Rattle.basis.specs.Reason.{first};
 ghost use Rattle.row.specs.Names.{HEADER};
@@ -8,14 +10,14 @@ ghost use Rattle.table.specs.Refusals.{width, rows, head_wrong, head_reasons};
 
 use row::Row;
 
-#[derive(Drop)]
+#[derive(Clone, Copy)]
 pub struct Verdict {
     pub number: u64,
     pub row: u64,
 }
 
 // What a kind uses: of each reference field whether it has a variable's name, refers to a word or to an array, or is not used, and whether k and h are used.
-#[derive(Drop)]
+#[derive(Clone, Copy)]
 pub struct Uses {
     pub a: u8,
     pub b: u8,

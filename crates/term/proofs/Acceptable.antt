@@ -203,7 +203,7 @@ formed_accepted s f head size formed alone is marks = record {
   row = λ r l.
       subst (λ (x : Row). GoodRow s r x (uses_of x.kind)) (sym (is r l))
       (good_by s r (f r) (marks r l) (formed.fits r)
-      (names_widen (f r)
+      (names_widen {W = Placed s r} (f r)
       (λ a y (b : Below f r a y). (
         b.below,
         ap (λ (x : Row). sort_of x.kind) (is y (lt_trans b.below l)) ∙ sort_row (f y) ∙ ap (λ (c : Bool). cond c ARRAY WORD) b.sort,

@@ -30,7 +30,7 @@ result_leads M limit t low =
     subst (Names (λ s y. LeadsBack (seen t) y x)) (sym (result_eq M limit t low x))
     (simplified_in (λ s y. LeadsBack (seen t) y x) (result M limit t)
     (λ s y (back : LeadsBack (seen t) y x).
-    names_widen (result M limit t y) (λ s' z (on : LeadsBack (seen t) z y). leads_on (seen t) on back)
+    names_widen {W = λ s z. LeadsBack (seen t) z x} (result M limit t y) (λ s' z (on : LeadsBack (seen t) z y). leads_on (seen t) on back)
     (earlier y (leads_down (seen t) (seen_below t low) y x back)))
     M limit t x
-    (names_widen (seen t x) (λ s y (n : Refers (seen t x) y). directly n) (names_referred (seen t x)))))
+    (names_widen {W = λ s y. LeadsBack (seen t) y x} (seen t x) (λ s y (n : Refers (seen t x) y). directly n) (names_referred (seen t x)))))

@@ -132,7 +132,7 @@ module _
     range_down_local M zero s x u = refl
     range_down_local M (suc deep) s x u =
         range_by_local M (range_down M f deep) (range_down M f' deep) (f x)
-        (names_widen (f x) (λ s' y v word. range_down_local M deep s' y v) (closed s x u)) ∙
+        (names_widen {U = U} {W = λ s' y. s' ≡ false → range_down M f deep y ≡ range_down M f' deep y} (f x) (λ s' y v word. range_down_local M deep s' y v) (closed s x u)) ∙
         ap (range_by M (range_down M f' deep)) (agree s x u)
 
     -- the range of a row of U

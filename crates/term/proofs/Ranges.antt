@@ -2,6 +2,7 @@
 use Prim.Native.Nat.{ℕ, zero, suc, ◌<◌}
 use native.Mathlib.Nat.{le_of_suc-le-suc, not-suc-le-zero, lt_of_lt_of_le, lt-suc_self}
 use mathlib.Core.Path.{◌≡◌}
+use mathlib.Core.Bool.{false}
 use Rattle.term.specs.Term.{Term}
 use Rattle.term.specs.Relation.{range_by, range_down, range_of}
 use Rattle.term.proofs.Names.{NamesBelow, names_widen}
@@ -15,11 +16,11 @@ module _ (M : ℕ) (f : ℕ → Term) (low : NamesBelow f) where
   range_deep (suc d) zero x l k = absurd (not-suc-le-zero k)
   range_deep (suc d) (suc e) x l k =
       range_by_local M (range_down M f d) (range_down M f e) (f x)
-      (names_widen (f x)
+      (names_widen {W = λ s y. s ≡ false → range_down M f d y ≡ range_down M f e y} (f x)
       (λ s y (h : y < x) word. range_deep d e y (lt_of_lt_of_le h (le_of_suc-le-suc l)) (lt_of_lt_of_le h (le_of_suc-le-suc k))) (low x))
 
   pub range_eq : (x : ℕ) → range_of M f x ≡ range_by M (range_of M f) (f x)
   unfolding range_of range_down
   range_eq x =
       range_by_local M (range_down M f x) (range_of M f) (f x)
-      (names_widen (f x) (λ s y (h : y < x) word. range_deep x (suc y) y h (lt-suc_self y)) (low x))
+      (names_widen {W = λ s y. s ≡ false → range_down M f x y ≡ range_of M f y} (f x) (λ s y (h : y < x) word. range_deep x (suc y) y h (lt-suc_self y)) (low x))

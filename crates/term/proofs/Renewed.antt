@@ -97,7 +97,7 @@ module _ (M limit : ℕ) (touched : ℕ → Bool) (t kept : ℕ → Term) (low :
       sym (renewed_eq x) in (
         same,
         ranges x l ∙ ap (range_by M g) same ∙
-            range_by_local M g (range_of M out) (out x) (names_widen (out x) (λ s y (k : y < x) word. (earlier y k (lt_trans k l)).1) (renewed_below x)) ∙
+            range_by_local M g (range_of M out) (out x) (names_widen {W = λ s y. s ≡ false → g y ≡ range_of M out y} (out x) (λ s y (k : y < x) word. (earlier y k (lt_trans k l)).1) (renewed_below x)) ∙
             sym (range_eq M out renewed_below x),
       ))
 

@@ -133,7 +133,7 @@ module _ (t : ℕ → Term) where
         (record { below = later_below x e; sort = seen_sort (first_row t x) ∙ stated_word (t (first_row t x)) (first_states x e) }))
         (λ (e : is_later t x ≡ false).
         subst (Names (Below (seen t) x)) (sym (seen_own x e))
-        (names_widen (t x) (λ s y (b : Below t x s y). record { below = b.below; sort = seen_sort y ∙ b.sort }) (formed.names x)))
+        (names_widen {W = Below (seen t) x} (t x) (λ s y (b : Below t x s y). record { below = b.below; sort = seen_sort y ∙ b.sort }) (formed.names x)))
 
     pub seen_formed : WellFormed M (seen t)
     seen_formed = record { fits = seen_fits; names = seen_names }

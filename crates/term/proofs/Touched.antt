@@ -202,7 +202,7 @@ module _ (before after : ℕ → Term) (r : ℕ) (alike : (x : ℕ) → (x ≡ r
     pub untouched_names : Names (λ s y. touched_in before after r y ≡ false) (seen before x)
     unfolding touched_in
     untouched_names =
-        names_widen (seen before x) (λ s y b. or_false _ _ b.0 b.1)
+        names_widen {U = λ s y. (touched_by (seen before) r y ≡ false) × (touched_by (seen after) r y ≡ false)} {W = λ s y. touched_in before after r y ≡ false} (seen before x) (λ s y b. or_false _ _ b.0 b.1)
         (names_both (λ s y. touched_by (seen before) r y ≡ false) (λ s y. touched_by (seen after) r y ≡ false) (seen before x)
         (none_named (touched_by (seen before) r) (seen before x) none_before)
         (subst (Names (λ s y. touched_by (seen after) r y ≡ false)) (sym untouched_seen) (none_named (touched_by (seen after) r) (seen after x) none_after)))

@@ -149,12 +149,12 @@ module _
         (λ (e : touched x ≡ true).
         simplified_in (Below out x) out
         (λ s y (b : Below out x s y).
-        names_widen (out y) (λ s' z (d : Below out y s' z). record { below = lt_trans d.below b.below; sort = d.sort }) (earlier y b.below))
+        names_widen {W = Below out x} (out y) (λ s' z (d : Below out y s' z). record { below = lt_trans d.below b.below; sort = d.sort }) (earlier y b.below))
         M limit t x
-        (names_widen (seen t x) (λ s y (b : Below (seen t) x s y). record { below = b.below; sort = renewed_sort y ∙ sym (seen_sort t y) ∙ b.sort })
+        (names_widen {W = Below out x} (seen t x) (λ s y (b : Below (seen t) x s y). record { below = b.below; sort = renewed_sort y ∙ sym (seen_sort t y) ∙ b.sort })
         ((seen_formed t M pos formed).names x)))
         (λ (e : touched x ≡ false).
-        names_widen (kept x) (λ s y (b : Below kept x s y). record { below = b.below; sort = renewed_sort y ∙ sym (sorts y) ∙ b.sort }) (formed-kept.names x))))
+        names_widen {W = Below out x} (kept x) (λ s y (b : Below kept x s y). record { below = b.below; sort = renewed_sort y ∙ sym (sorts y) ∙ b.sort }) (formed-kept.names x))))
 
     pub renewed_formed : WellFormed M (renewed M limit touched t kept)
     renewed_formed = record { fits = λ x. (renewed_fits x).0; names = renewed_names }

@@ -1,8 +1,10 @@
 // The written rules over rows as terms, and their laws. The only code is the types of what is known of two rows, and why.
+#![tactic(auto)]
+
 use range::Range;
 
 // What is known of two word rows: they are equal, they differ, or neither is known.
-#[derive(Drop)]
+#[derive(Clone, Copy)]
 pub enum Relation {
     Unknown,
     Same,
@@ -10,14 +12,14 @@ pub enum Relation {
 }
 
 // Two ranges that share no word: that of a store's index, and that of the index sought.
-#[derive(Drop)]
+#[derive(Clone, Copy)]
 pub struct Spans {
     pub store: Range,
     pub read: Range,
 }
 
 // Why that is known, or that it is not. Offsets and ranges: the store's first.
-#[derive(Drop)]
+#[derive(Clone, Copy)]
 pub enum Reason {
     SamePlace,
     Offsets(u64, u64),
@@ -26,7 +28,7 @@ pub enum Reason {
 }
 
 // A step of a walk: the store that was compared, the row of its index, and the reason.
-#[derive(Drop)]
+#[derive(Clone, Copy)]
 pub struct Met {
     pub store: usize,
     pub index: usize,

@@ -1,5 +1,7 @@
 // Text, written into a slice that the caller lends. What does not fit is left out and still counted, so no function
 // asks for room, and a slice of no room measures a text. Each function answers the place behind what it wrote.
+#![tactic(auto)]
+
 ghost use Rattle.std.specs.Prelude.{[], ◌∷◌, ◌+◌, ◌*◌, ◌<◌, ◌^◌, length};
 ghost use Rattle.text.specs.Text.{decimal, spaced, Put};
 

@@ -258,7 +258,7 @@ module _ (T old : List ℕ) (n r : ℕ) (marks₀ : List ℕ) (can : CanMark T o
         named = record {
           kind_low = (can.ok.row x l').kind_low;
           kind_high = (can.ok.row x l').kind_high;
-          names = names_widen (term_of (row_at T x)) (λ s y (h : y < x). omega (arith, few)) (below x);
+          names = names_widen {W = λ array y. y < MOST} (term_of (row_at T x)) (λ s y (h : y < x). omega (arith, few)) (below x);
         };
       }
 

@@ -1,5 +1,7 @@
 // The rows that an edit works out anew: row r, which was replaced, and the rows that lead back to it. Each row is marked that is r, states a name that
 // r led or leads, or names a marked row.
+#![tactic(auto)]
+
 ghost use Rattle.std.specs.Prelude.{◌≡◌, ◌&&◌, ◌||◌, ◌≤◌, eqb, length};
 ghost use Rattle.row.specs.Names.{place};
 ghost use Rattle.names.specs.First.{name_at};

@@ -1,4 +1,6 @@
 // The list of one read: its walk, gone once more over the result, with a line for each store compared.
+#![tactic(auto)]
+
 ghost use Rattle.std.specs.Prelude.{◌+◌, ◌*◌};
 ghost use Rattle.range.specs.Store.{kept};
 ghost use Rattle.row.specs.Bytes.{row_at, source_at};

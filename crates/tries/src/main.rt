@@ -1,5 +1,8 @@
 // Runs document 01's cases over real bytes. A line is a case, the number that the check gives, and its row.
+#![tactic(auto)]
+
 use row::Row;
+use std::io;
 
 // The bytes of a table of one row more than the most.
 const ROOM: usize = table::LARGEST + Row::LENGTH;
@@ -128,60 +131,49 @@ fn put(t: &mut [u8; ROOM], r: usize, x: Row, source: u64) {
 
 // Makes every row a CONST 0, recorded at the instruction of its own number.
 fn fill(t: &mut [u8; ROOM]) {
-    let mut r = 0;
-    while r <= 1024 {
+    for r in 0..1025 {
         put(t, r, Row::make(Row::CONST, 0, 0, 0, 0, 0), r as u64);
-        r += 1;
     }
 }
 
 // Prints numbers, each with a space behind it.
-fn show(s: &[u64]) {
-    let mut i = 0;
-    while i < s.len() {
-        io::print_decimal(1, s[i]);
-        io::write_all(1, b" ");
-        i += 1;
+fn show<R: Print>(rt: &R, s: &[u64]) -> io::Result<()> {
+    for n in s {
+        print!(rt; "{n} ")?;
     }
+    Ok(())
 }
 
 // Prints what the check says of the first n bytes.
-fn say(t: &[u8], n: usize) {
+fn say<R: Print>(rt: &R, t: &[u8], n: usize) -> io::Result<()> {
     if t.len() < n {
-        return;
+        return Ok(());
     }
     let v = scan::check(&t[..n]);
-    io::write_all(1, b": ");
-    io::print_decimal(1, v.number);
-    io::write_all(1, b" row ");
-    io::print_decimal(1, v.row);
-    io::write_all(1, b"\n");
+    println!(rt; ": {} row {}", v.number, v.row)
 }
 
-fn head_case(t: &mut [u8; ROOM], c: [u64; 6]) {
-    show(&c);
+fn head_case<R: Print>(rt: &R, t: &mut [u8; ROOM], c: [u64; 6]) -> io::Result<()> {
+    show(rt, &c)?;
     set(t, 0, c[0]);
     set(t, 1, c[1]);
     set(t, 2, c[2]);
     set(t, 3, c[3]);
     set(t, 4, c[4]);
     set(t, 5, c[4] / 256);
-    say(t, c[5] as usize);
+    say(rt, t, c[5] as usize)
 }
 
-fn head_cases(t: &mut [u8; ROOM]) {
-    let cases = HEADS;
-    let mut i = 0;
-    while i < 27 {
-        let c = cases[i];
-        head_case(t, c);
-        i += 1;
+fn head_cases<R: Print>(rt: &R, t: &mut [u8; ROOM]) -> io::Result<()> {
+    for c in HEADS {
+        head_case(rt, t, c)?;
     }
+    Ok(())
 }
 
-fn row_case(t: &mut [u8; ROOM], c: [u64; 10], source: u64) {
-    show(&c);
-    show(&[source]);
+fn row_case<R: Print>(rt: &R, t: &mut [u8; ROOM], c: [u64; 10], source: u64) -> io::Result<()> {
+    show(rt, &c)?;
+    show(rt, &[source])?;
     head(t, c[0], 3);
     let x = Row::make(
         low(c[3]),
@@ -195,37 +187,34 @@ fn row_case(t: &mut [u8; ROOM], c: [u64; 10], source: u64) {
     set(t, ROW_2, c[1]);
     set(t, ROW_2 + 1, c[2]);
     set(t, ROW_2 + Row::ZERO, c[4]);
-    say(t, ROW_2 + Row::LENGTH);
+    say(rt, t, ROW_2 + Row::LENGTH)
 }
 
 // Every row case, recorded at instruction `source`, which is printed behind the case: it never changes what the check gives.
-fn row_cases(t: &mut [u8; ROOM], source: u64) {
+fn row_cases<R: Print>(rt: &R, t: &mut [u8; ROOM], source: u64) -> io::Result<()> {
     put(t, 0, Row::make(Row::CONST, 0, 0, 0, 1, 0), source);
     put(t, 1, Row::make(Row::FRESH, 0, 0, 0, 0, 0), source);
-    let cases = ROWS;
-    let mut i = 0;
-    while i < 47 {
-        let c = cases[i];
-        row_case(t, c, source);
-        i += 1;
+    for c in ROWS {
+        row_case(rt, t, c, source)?;
     }
+    Ok(())
 }
 
 // The largest k at every width: a word at 64 bits alone.
-fn every_width(t: &mut [u8; ROOM]) {
-    let mut w: u64 = 1;
-    while w <= 64 {
+fn every_width<R: Print>(rt: &R, t: &mut [u8; ROOM]) -> io::Result<()> {
+    for w in 1..65 {
         row_case(
+            rt,
             t,
             [w, 0x52, 0x4F, 1, 0, 0, 0, 0, 0xffff_ffff_ffff_ffff, 0],
             0,
-        );
-        w += 1;
+        )?;
     }
+    Ok(())
 }
 
 // Which row is given: the first faulty one.
-fn faulty_rows(t: &mut [u8; ROOM]) {
+fn faulty_rows<R: Print>(rt: &R, t: &mut [u8; ROOM]) -> io::Result<()> {
     fill(t);
     head(t, 8, 1024);
     put(
@@ -234,22 +223,22 @@ fn faulty_rows(t: &mut [u8; ROOM]) {
         Row::make(Row::SHIFT, 1022, 0, 0, 255, 0),
         0xffff_ffff,
     );
-    io::write_all(1, b"last row names the one below");
-    say(t, table::LARGEST);
+    print!(rt; "last row names the one below")?;
+    say(rt, t, table::LARGEST)?;
     put(
         t,
         1023,
         Row::make(Row::SHIFT, 1023, 0, 0, 255, 0),
         0xffff_ffff,
     );
-    io::write_all(1, b"last row names itself");
-    say(t, table::LARGEST);
+    print!(rt; "last row names itself")?;
+    say(rt, t, table::LARGEST)?;
     put(t, 500, Row::make(Row::VAR, 0, 0, 0, 9, 8), 500);
-    io::write_all(1, b"row 500 crosses its bounds too");
-    say(t, table::LARGEST);
+    print!(rt; "row 500 crosses its bounds too")?;
+    say(rt, t, table::LARGEST)?;
     put(t, 0, Row::make(Row::SHIFT, 0, 0, 0, 0, 0), 0);
-    io::write_all(1, b"row 0 names itself too");
-    say(t, table::LARGEST);
+    print!(rt; "row 0 names itself too")?;
+    say(rt, t, table::LARGEST)
 }
 
 fn p1(t: &mut [u8; ROOM]) {
@@ -266,48 +255,48 @@ fn p1(t: &mut [u8; ROOM]) {
 }
 
 // P1, and the table of P3: P1 with CONST 0 for its row 1.
-fn p1_and_p3(t: &mut [u8; ROOM]) {
+fn p1_and_p3<R: Print>(rt: &R, t: &mut [u8; ROOM]) -> io::Result<()> {
     p1(t);
-    io::write_all(1, b"P1");
-    say(t, Row::place(9));
+    print!(rt; "P1")?;
+    say(rt, t, Row::place(9))?;
     put(t, 1, Row::make(Row::CONST, 0, 0, 0, 0, 0), 0);
-    io::write_all(1, b"P3");
-    say(t, Row::place(9));
+    print!(rt; "P3")?;
+    say(rt, t, Row::place(9))
 }
 
 // A VAR named 7 as the last of five rows, and what the check then gives.
-fn last_row(t: &mut [u8; ROOM], k: u64, h: u64) {
+fn last_row<R: Print>(rt: &R, t: &mut [u8; ROOM], k: u64, h: u64) -> io::Result<()> {
     put(t, 4, Row::make(Row::VAR, 7, 0, 0, k, h), 0);
-    show(&[k, h]);
-    say(t, Row::place(5));
+    show(rt, &[k, h])?;
+    say(rt, t, Row::place(5))
 }
 
 // Rows of one name: it is the first whose bounds count, also where another name, 263, has its slot. Name 0 is none.
-fn rows_of_one_name(t: &mut [u8; ROOM]) {
+fn rows_of_one_name<R: Print>(rt: &R, t: &mut [u8; ROOM]) -> io::Result<()> {
     head(t, 8, 5);
     put(t, 0, Row::make(Row::VAR, 7, 0, 0, 0, 9), 0);
     put(t, 1, Row::make(Row::VAR, 263, 0, 0, 1, 2), 0);
     put(t, 2, Row::make(Row::VAR, 0, 0, 0, 3, 4), 0);
     put(t, 3, Row::make(Row::VAR, 0, 0, 0, 5, 6), 0);
-    io::write_all(1, b"the name of row 0, bounds 0 9, again with bounds\n");
-    last_row(t, 0, 9);
-    last_row(t, 0, 8);
-    last_row(t, 1, 9);
-    last_row(t, 9, 8);
-    io::write_all(1, b"row 0 a CONST\n");
+    println!(rt; "the name of row 0, bounds 0 9, again with bounds")?;
+    last_row(rt, t, 0, 9)?;
+    last_row(rt, t, 0, 8)?;
+    last_row(rt, t, 1, 9)?;
+    last_row(rt, t, 9, 8)?;
+    println!(rt; "row 0 a CONST")?;
     put(t, 0, Row::make(Row::CONST, 0, 0, 0, 0, 0), 0);
-    last_row(t, 0, 8);
+    last_row(rt, t, 0, 8)
 }
 
-fn main() {
+fn main(rt: HostRuntime) -> io::Result<()> {
     let mut t = [0u8; ROOM];
     fill(&mut t);
-    head_cases(&mut t);
-    row_cases(&mut t, 0);
-    row_cases(&mut t, 1);
-    row_cases(&mut t, 0xffff_ffff);
-    every_width(&mut t);
-    faulty_rows(&mut t);
-    p1_and_p3(&mut t);
-    rows_of_one_name(&mut t);
+    head_cases(&rt, &mut t)?;
+    row_cases(&rt, &mut t, 0)?;
+    row_cases(&rt, &mut t, 1)?;
+    row_cases(&rt, &mut t, 0xffff_ffff)?;
+    every_width(&rt, &mut t)?;
+    faulty_rows(&rt, &mut t)?;
+    p1_and_p3(&rt, &mut t)?;
+    rows_of_one_name(&rt, &mut t)
 }

@@ -23,7 +23,7 @@ module _ (R : List ℕ) (r x : ℕ) (rows : Standing R r) (below : x < r) where
 -- what a row that stands names stands too
 module _ (R : List ℕ) (r : ℕ) (rows : Standing R r) where
   pub rows_closed : (array : Bool) (x : ℕ) → x < r → NamesBelow r (look R x)
-  rows_closed array x l = names_widen (look R x) (λ (s : Bool) (y : ℕ) (h : y < x). omega arith) (rows.names x l)
+  rows_closed array x l = names_widen {W = λ s y. y < r} (look R x) (λ (s : Bool) (y : ℕ) (h : y < x). omega arith) (rows.names x l)
 
   pub sorts_closed : Sorted R r → (array : Bool) (x : ℕ) → (x < r) × (is_array (look R x) ≡ array)
       → Names (λ s y. (y < r) × (is_array (look R y) ≡ s)) (look R x)

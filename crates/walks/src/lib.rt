@@ -1,5 +1,7 @@
 // What is known of two rows, and the walk of a READ over the stores below it, straight on lent bytes. `result` holds the result rows, of which
 // those below row r stand; `store` keeps the ranges of words and what a walk asks of arrays; `limit` is the number of stores that a READ compares at most.
+#![tactic(auto)]
+
 mod relation;
 mod value;
 mod walking;

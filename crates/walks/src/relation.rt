@@ -13,7 +13,7 @@ use row::Row;
 use term::{Reason, Relation, Spans};
 
 // The value and the range of an index row, read once for a whole walk.
-#[derive(Drop)]
+#[derive(Clone, Copy)]
 pub struct Index {
     pub value: Value,
     pub range: Range,

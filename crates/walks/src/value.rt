@@ -8,7 +8,7 @@ ghost use Rattle.walks.specs.Value.{value, value_of, value_at, second_of, agree,
 use row::Row;
 
 // A base is told by the kind of the row that it is written as, CONST, SHIFT, SUM, DIFF or NEG, and by the rows that it names.
-#[derive(Drop)]
+#[derive(Clone, Copy)]
 pub struct Value {
     pub kind: u8,
     pub a: usize,

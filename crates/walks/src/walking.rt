@@ -12,7 +12,7 @@ use term::Relation;
 
 // What a walk does at one array row: it has found the element, goes on to the next array, or stays at a store of whose index neither is known; or it ends at
 // an array that is no store, and has compared none there.
-#[derive(Drop)]
+#[derive(Clone, Copy)]
 pub enum Step {
     Hit(usize),
     Next(usize),
@@ -21,14 +21,14 @@ pub enum Step {
 }
 
 // How a walk ends: with the element's row, or at the array where it stopped.
-#[derive(Drop)]
+#[derive(Clone, Copy)]
 pub enum Landing {
     Found(usize),
     Stopped(usize),
 }
 
 // A walk's end, and how many stores it compared.
-#[derive(Drop)]
+#[derive(Clone, Copy)]
 pub struct Walked {
     pub landing: Landing,
     pub compared: usize,
@@ -47,8 +47,8 @@ impl Walked {
 
 // One step, at array row m. The store has what it asks of that row, so that the next step waits for one load; where row m itself stands takes three sums more.
 fn step_at(res: &[u8], store: &[u64; 2048], r: usize, i: usize, j: Index, m: usize) -> Step
-    requires fact_1 { Walking res.now store.now r i j m }
-    requires fact_2 { Following res.now store.now r m }
+    requires walking { Walking res.now store.now r i j m }
+    requires following { Following res.now store.now r m }
     ensures { result ≡ step_at (look res.now) (kept store.now) i (look res.now m) }
 {
     let x = range::load(store, m);
@@ -72,8 +72,8 @@ pub fn walk(
     j: Index,
     m: usize,
 ) -> Walked
-    requires fact_1 { Walking res.now store.now r i j m }
-    requires fact_2 { Following res.now store.now r m }
+    requires walking { Walking res.now store.now r i j m }
+    requires following { Following res.now store.now r m }
     ensures { result ≡ walked_by (walk (look res.now) (kept store.now) i limit m) }
 {
     let mut n = m;

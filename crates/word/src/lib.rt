@@ -1,4 +1,6 @@
 // Words of w bits, 1 to 64, each in a u64. The definitions are over the modulus 2 ^ w, so w = 64 is no case of its own there.
+#![tactic(auto)]
+
 ghost use Rattle.std.specs.Prelude.{◌≡◌, ◌-◌, ◌%◌, ◌^◌, ◌<◌, ◌≤◌, nat_le};
 ghost use Rattle.word.specs.Word.{plus, minus};
 

@@ -1,0 +1,9 @@
+use Rattle.walks.proofs.Reach.{row_room}
+use Rattle.rules.proofs.WordRules.{shift_row}
+use Rattle.rules.proofs.words.shift_rule.Goals as goal
+
+pub value_at-requires : goal.value_at-requires
+value_at-requires c = search row_room
+
+pub returns : goal.returns
+returns c = search shift_row

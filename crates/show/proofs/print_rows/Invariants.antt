@@ -1,0 +1,8 @@
+use Prim.Native.Nat.{◌-◌, ◌≤◌}
+use Rattle.show.proofs.print_rows.Given as goal
+
+abbrev pub invariant-loop-from : goal.invariant-loop-from
+invariant-loop-from g l = l.from ≤ l.n
+
+abbrev pub decreases-loop-from : goal.decreases-loop-from
+decreases-loop-from g l = l.n - l.from

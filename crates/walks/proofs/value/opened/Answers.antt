@@ -1,0 +1,8 @@
+use Rattle.walks.proofs.Bases.{opened_one, opened_self}
+use Rattle.walks.proofs.value.opened.Goals as goal
+
+pub returns-then-v-eq-SHIFT : goal.returns-then-v-eq-SHIFT
+returns-then-v-eq-SHIFT c = search opened_one
+
+pub returns : goal.returns
+returns c = search opened_self
