@@ -68,22 +68,22 @@ def names():
 
 
 def respelled(text, map):
-    """Text with its names respelled, but for the paths of modules, and for fields that merely share a lemma's name."""
+    """Text with its names respelled, but for the paths of modules."""
+    return "\n".join(respelled_line(line, map) for line in text.split("\n"))
+
+
+def respelled_line(line, map):
+    path = re.match(r"(?:ghost )?use [^{]*", line)
+    kept = path[0] if path else ""
+    rest = line[len(kept):]
+
     def one(m):
         new = map.get(m[0], m[0])
-        if new.endswith("_lem") and "-" not in m[0] and text[m.start() - 1:m.start()] == ".":
-            return m[0]
-        return new
+        # a field that merely shares the name of a lemma which gets _lem keeps it
+        is_field = rest[m.start() - 1:m.start()] == "."
+        return m[0] if new.endswith("_lem") and "-" not in m[0] and is_field else new
 
-    lines = []
-    for line in text.split("\n"):
-        path = re.match(r"((?:ghost )?use [^{]*)(.*)$", line)
-        lines.append((path[1], path[2]) if path else ("", line))
-    out = []
-    for kept, rest in lines:
-        text = rest
-        out.append(kept + TOKEN.sub(one, rest))
-    return "\n".join(out)
+    return kept + TOKEN.sub(one, rest)
 
 
 def in_clauses(text, map):
