@@ -1,8 +1,6 @@
 -- What an argument of a program gives: a known word, or a number.
-use Rattle.std.specs.Prelude.{ℕ, ◌^◌, Bool, true, false, cond, ◌&&◌, List, [], ◌∷◌, eqb, leb, ltb, length}
+use Rattle.std.specs.Prelude.{ℕ, ◌^◌, Option, Some, None, Bool, true, false, cond, ◌&&◌, List, [], ◌∷◌, eqb, leb, ltb, length}
 use Rattle.text.specs.Text.{read}
-use Rattle.argument.specs.declared.Parsed.{Parsed}
-use Rattle.argument.specs.declared.Parsed.TheVariants.{Number, Nothing}
 
 -- byte by byte
 unfoldable pub same_word : List ℕ → List ℕ → Bool
@@ -27,5 +25,5 @@ DIGITS = 20
 unfoldable pub is_number : List ℕ → Bool
 is_number word = leb 1 (length word) && leb (length word) DIGITS && all_digits word && ltb (read 0 word) (2 ^ 64)
 
-unfoldable pub number_of : List ℕ → Parsed
-number_of word = cond (is_number word) (Number (read 0 word)) Nothing
+unfoldable pub number_of : List ℕ → Option ℕ
+number_of word = cond (is_number word) (Some (read 0 word)) None

@@ -7,69 +7,42 @@ ghost use Rattle.argument.specs.Argument.{same_word, is_digit, number_of};
 use std::env::FillError;
 use std::rt::Env;
 
-// What an argument reads as.
-#[derive(Clone, Copy)]
-pub enum Parsed {
-    Number(u64),
-    Nothing,
-}
-
-// the digits that a number of 64 bits has at most, and the largest such number
+// the digits that a number of 64 bits has at most
 pub const DIGITS: usize = 20;
-
-const MOST: u64 = 0xffff_ffff_ffff_ffff;
 
 // Whether a word is that other one.
 pub fn is_word(word: &[u8], other: &[u8]) -> bool
     ensures { result ≡ same_word word.now other.now }
 {
-    if word.len() != other.len() {
-        return false;
-    }
-    let mut at = 0;
-    while at < word.len() {
-        if word[at] != other[at] {
-            return false;
-        }
-        at += 1;
-    }
-    true
+    word == other
 }
 
 fn is_digit(c: u8) -> bool
     ensures { result ≡ is_digit c }
 {
-    if c < b'0' {
-        return false;
-    }
-    c <= b'9'
+    b'0' <= c && c <= b'9'
 }
 
 // The number that a word reads as.
-pub fn number(word: &[u8]) -> Parsed
+pub fn number(word: &[u8]) -> Option<u64>
     ensures { result ≡ number_of word.now }
 {
     if word.len() == 0 {
-        return Parsed::Nothing;
+        return None;
     }
     if word.len() > DIGITS {
-        return Parsed::Nothing;
+        return None;
     }
-    let mut value = 0;
-    let mut i = 0;
-    while i < word.len() {
-        let c = word[i];
+    let mut value: u64 = 0;
+    for &c in word {
         if !is_digit(c) {
-            return Parsed::Nothing;
+            return None;
         }
         let digit = (c - b'0') as u64;
-        if value > (MOST - digit) / 10 {
-            return Parsed::Nothing;
-        }
-        value = value * 10 + digit;
-        i += 1;
+        let tens = value.checked_mul(10)?;
+        value = tens.checked_add(digit)?;
     }
-    Parsed::Number(value)
+    Some(value)
 }
 
 // Copies argument i of the program into `word` and answers its length; argument 0 is the program's name. One that is missing, or longer than the
@@ -77,10 +50,7 @@ pub fn number(word: &[u8]) -> Parsed
 pub fn word_at<R: Env>(rt: &R, i: usize, word: &mut [u8]) -> usize
     ensures { result ≤ length word.new }
 {
-    match rt.arg(i, word) {
-        Ok(size) => size,
-        Err(_) => 0,
-    }
+    rt.arg(i, word).unwrap_or(0)
 }
 
 // How many arguments the program has. The program's name is counted too.
@@ -95,7 +65,7 @@ pub fn count<R: Env>(rt: &R) -> usize {
 }
 
 // The number that argument i of the program gives.
-pub fn number_at<R: Env>(rt: &R, i: usize) -> Parsed {
+pub fn number_at<R: Env>(rt: &R, i: usize) -> Option<u64> {
     let mut word = [0u8; DIGITS];
     let size = word_at(rt, i, &mut word);
     number(&word[..size])

@@ -7,7 +7,7 @@ use mathlib.Core.List.{List}
 use lib.Dec.{leb, ltb, eqb}
 use lib.ListN.{length}
 use lib.Pow.{pow_pos}
-use borrow.Author.Tests.{leb-true, ltb-true, lt-ltb, le-ltb, eqb-true, ne_eqb, not-false}
+use borrow.Author.Tests.{leb-true, ltb-true, eqb-true, ne_eqb}
 use Rattle.basis.proofs.Pick.{and_left, and_right}
 use Rattle.row.specs.declared.Row.{Row}
 use Rattle.row.specs.Names.{LENGTH, CONST, VAR, SHIFT, SUM, DIFF, NEG, READ, FRESH, WRITE, place}
@@ -16,10 +16,12 @@ use Rattle.row.proofs.Places.{room_below}
 use Rattle.names.specs.First.{name_of, name_at}
 use Rattle.names.proofs.First.{nameless_first}
 use Rattle.table.specs.declared.Uses.{Uses}
-use Rattle.table.specs.Uses.{WORD, sort_of, uses_of}
-use Rattle.table.specs.Refusals.{reference, use_at, is_used, is_reference, other_bounds, row_fault}
+use Rattle.table.specs.declared.Use.{Use}
+use Rattle.table.specs.declared.Use.TheVariants.{Unused, Name, Refers}
+use Rattle.table.specs.Uses.{sort_of, is_used, is_reference, refers_to, uses_of}
+use Rattle.table.specs.Refusals.{reference, use_at, other_bounds, row_fault}
 use Rattle.table.specs.Accepted.{GoodRow}
-use Rattle.table.proofs.Fields.{same_bounds}
+use Rattle.table.proofs.Fields.{same_bounds, refers_true}
 use Rattle.table.proofs.Accepts.{row_good}
 use Rattle.table.proofs.Exactly.{passes_row}
 use Rattle.clean.specs.Clean.{number_clean, field_clean, row_clean, Asked, NoFault}
@@ -45,38 +47,25 @@ module _ (w : ℕ) (v : ℕ) where
 
 -- ---- a reference field
 
-module _ (t : List ℕ) (r used at : ℕ) where
-  pub idle_field : used < WORD → eqb at 0 ≡ field_clean t r used at
+pub early_room : (t : List ℕ) (r at : ℕ) → at < r → place r ≤ length t → place at + LENGTH ≤ length t
+early_room t r at early room = omega (arith, room_below early)
+
+module _ (t : List ℕ) (r : ℕ) (used : Use) (at : ℕ) (clean : field_clean t r used at ≡ true) where
+  names_row : is_reference used ≡ true → (ltb at r && refers_to (sort_of (row_at t at).kind) used) ≡ true
   unfolding field_clean
-  idle_field l = rw (lt-ltb used WORD l)
+  names_row e = rw e at clean
 
-  pub late_field : WORD ≤ used → r ≤ at → false ≡ field_clean t r used at
-  unfolding field_clean
-  late_field l late = rw (le-ltb used WORD l, le-ltb at r late)
+  field_below : is_reference used ≡ true → at < r
+  field_below e = ltb-true at r (and_left (ltb at r) _ (names_row e))
 
-  pub early_field : {kind sort : ℕ} → WORD ≤ used → at < r → kind ≡ (row_at t at).kind → sort ≡ sort_of kind → eqb sort used ≡ field_clean t r used at
-  unfolding field_clean
-  early_field l early kind_is sort_is = rw (le-ltb used WORD l, lt-ltb at r early, sort_is, kind_is)
+  field_sort : is_reference used ≡ true → Refers (sort_of (row_at t at).kind) ≡ used
+  field_sort e = refers_true _ _ (and_right (ltb at r) _ (names_row e))
 
-  pub early_room : at < r → place r ≤ length t → place at + LENGTH ≤ length t
-  early_room early room = omega (arith, room_below early)
-
-  module _ (clean : field_clean t r used at ≡ true) where
-    field_zero : is_used used ≡ false → at ≡ 0
-    unfolding field_clean is_used
-    field_zero e =
-        let none : used ≡ 0 = eqb-true used 0 (not-false _ e) in
-        eqb-true at 0 (rw (lt-ltb used WORD (omega arith)) at clean)
-
-    names_row : is_reference used ≡ true → (ltb at r && eqb (sort_of (row_at t at).kind) used) ≡ true
-    unfolding field_clean is_reference
-    names_row e = rw (le-ltb used WORD (leb-true WORD used e)) at clean
-
-    field_below : is_reference used ≡ true → at < r
-    field_below e = ltb-true at r (and_left (ltb at r) _ (names_row e))
-
-    field_sort : is_reference used ≡ true → sort_of (row_at t at).kind ≡ used
-    field_sort e = eqb-true _ _ (and_right (ltb at r) _ (names_row e))
+field_zero : (t : List ℕ) (r : ℕ) (used : Use) (at : ℕ) → field_clean t r used at ≡ true → is_used used ≡ false → at ≡ 0
+unfolding field_clean is_reference is_used
+field_zero t r Unused at clean e = eqb-true at 0 clean
+field_zero t r Name at clean e = cc
+field_zero t r (Refers sort) at clean e = cc
 
 -- ---- a row
 

@@ -5,7 +5,8 @@ use Rattle.row.specs.Bytes.{row_at}
 use Rattle.row.specs.declared.Row.{Row}
 use Rattle.names.specs.First.{name_at}
 use Rattle.table.specs.declared.Uses.{Uses}
-use Rattle.table.specs.Uses.{WORD, sort_of}
+use Rattle.table.specs.declared.Use.{Use}
+use Rattle.table.specs.Uses.{sort_of, is_reference, refers_to}
 use Rattle.table.specs.Refusals.{width, row_fault}
 
 -- a number: a word where it is used, else zero
@@ -13,8 +14,8 @@ unfoldable pub number_clean : ℕ → Bool → ℕ → Bool
 number_clean w used v = cond used (leb v (2 ^ w - 1)) (eqb v 0)
 
 -- a reference field of row r: a row before, of the sort that it is used for, and zero where it refers to none
-unfoldable pub field_clean : List ℕ → ℕ → ℕ → ℕ → Bool
-field_clean t r used at = cond (ltb used WORD) (eqb at 0) (ltb at r && eqb (sort_of (row_at t at).kind) used)
+unfoldable pub field_clean : List ℕ → ℕ → Use → ℕ → Bool
+field_clean t r used at = cond (is_reference used) (ltb at r && refers_to (sort_of (row_at t at).kind) used) (eqb at 0)
 
 unfoldable pub row_clean : List ℕ → ℕ → ℕ → Uses → Row → Bool
 row_clean t w r u x =
@@ -23,7 +24,6 @@ row_clean t w r u x =
 -- what is asked of row r, which is x
 pub record Asked (t : List ℕ) (w r : ℕ) (x : Row) : Type 0 where
   pub is_width : w ≡ width t
-  pub width_high : w ≤ 64
   pub is_row : x ≡ row_at t r
   pub within : place r + LENGTH ≤ length t
 

@@ -6,18 +6,11 @@ mod answer;
 mod words;
 
 use answer::put_answer;
-use argument::{Parsed, number_at};
+use argument::number_at;
 use std::io;
 use std::rt::Env;
 use table::LARGEST;
 use words::LONGEST;
-
-// What the arguments read as.
-#[derive(Clone, Copy)]
-enum Asked {
-    Rows(u64, u64),
-    Nothing,
-}
 
 // Reads the table and prints what is known of rows x and y, or the refusal. The result has room for the largest table, and a longer input is refused with
 // one of 1 to 5, so 6 is never given (`room_enough`).
@@ -27,21 +20,15 @@ fn compare<R: Input + Print>(rt: &R, x: u64, y: u64) -> io::Result<()> {
     let mut result = [0u8; LARGEST];
     let mut out = [0u8; LONGEST];
     let end = put_answer(&mut out, &table[..size], &mut result, x, y);
-    printing::print(rt, &out, end)
+    printing::print(rt, &out[..end])
 }
 
 // The row numbers that the only two arguments give. The program's name is counted too.
-fn rows_asked<R: Env>(rt: &R) -> Asked {
+fn rows_asked<R: Env>(rt: &R) -> Option<(u64, u64)> {
     if argument::count(rt) != 3 {
-        return Asked::Nothing;
+        return None;
     }
-    let Parsed::Number(x) = number_at(rt, 1) else {
-        return Asked::Nothing;
-    };
-    let Parsed::Number(y) = number_at(rt, 2) else {
-        return Asked::Nothing;
-    };
-    Asked::Rows(x, y)
+    Some((number_at(rt, 1)?, number_at(rt, 2)?))
 }
 
 fn print_use<R: Print>(rt: &R) -> io::Result<()> {
@@ -50,7 +37,7 @@ fn print_use<R: Print>(rt: &R) -> io::Result<()> {
 
 fn main(rt: HostRuntime) -> io::Result<()> {
     match rows_asked(&rt) {
-        Asked::Rows(x, y) => compare(&rt, x, y),
-        Asked::Nothing => print_use(&rt),
+        Some((x, y)) => compare(&rt, x, y),
+        None => print_use(&rt),
     }
 }

@@ -1,41 +1,44 @@
 // The line that says what is known of two rows, written into a slice that the caller lends. `top` is the largest word.
 ghost use Rattle.std.specs.Prelude.{◌+◌, ◌<◌, ◌^◌};
-ghost use Rattle.text.specs.Text.{Put};
+ghost use Rattle.text.specs.Text.{Put, Wrote};
 ghost use Rattle.compare.specs.Line.{relation_text, rows_text, line, LONGEST};
 
 use reasons::{put_labelled, put_why};
 use term::{Reason, Relation};
-use text::put_word;
+use text::Text;
 
 // the bytes that the line takes at most
 pub const LONGEST: usize = 258;
 
 // Writes what is known.
-fn put_relation(out: &mut [u8], at: usize, known: Relation) -> usize
-    requires { at < 2 ^ 32 }
-    ensures { Put out.old at (relation_text known) 9 out.new result }
+fn put_relation(text: &mut Text, known: Relation)
+    requires { text.old.at < 2 ^ 32 }
+    ensures { Wrote text.old (relation_text known) 9 text.new }
 {
     match known {
-        Relation::Unknown => put_word(out, at, b"not known"),
-        Relation::Same => put_word(out, at, b"same"),
-        Relation::Apart => put_word(out, at, b"apart"),
+        Relation::Unknown => text.put_word(b"not known"),
+        Relation::Same => text.put_word(b"same"),
+        Relation::Apart => text.put_word(b"apart"),
     }
 }
 
 // Writes which rows are compared.
-fn put_rows(out: &mut [u8], x: u64, y: u64) -> usize
-    ensures { Put out.old 0 (rows_text x y) 50 out.new result }
+fn put_rows(text: &mut Text, x: u64, y: u64)
+    requires { text.old.at < 2 ^ 32 }
+    ensures { Wrote text.old (rows_text x y) 50 text.new }
 {
-    let next = put_labelled(out, 0, b"rows ", x);
-    put_labelled(out, next, b" and ", y)
+    put_labelled(text, b"rows ", x);
+    put_labelled(text, b" and ", y);
 }
 
 // Writes the line of rows x and y.
 pub fn put_line(out: &mut [u8], top: u64, x: u64, y: u64, why: Reason) -> usize
     ensures { Put out.old 0 (line (top + 1) x y why) LONGEST out.new result }
 {
-    let next = put_rows(out, x, y);
-    let known = put_word(out, next, b": ");
-    let end = put_relation(out, known, walks::known_by(why));
-    put_why(out, end, top, why)
+    let mut text = Text { out, at: 0 };
+    put_rows(&mut text, x, y);
+    text.put_word(b": ");
+    put_relation(&mut text, Relation::from(why));
+    put_why(&mut text, top, why);
+    text.at
 }

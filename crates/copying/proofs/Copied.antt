@@ -1,43 +1,22 @@
--- Copying byte after byte: after i of them, the first i stand in their place.
-use Prim.Native.Nat.{ℕ, ◌+◌, ◌<◌, ◌≤◌}
-use native.Mathlib.Numerals.{add-one}
+-- A part of a slice that the library has copied bytes into is a run of stores of them.
+use Prim.Native.Nat.{ℕ, ◌+◌, ◌-◌, ◌≤◌}
 use native.Mathlib.Omega.{arith}
-use mathlib.Core.Path.{◌≡◌, refl, ap, sym, ◌∙◌}
-use mathlib.Core.List.{List, [], ◌∷◌, ◌++◌}
-use lib.ListN.{length, get_or, take, drop, set, length-drop, length-set}
-use lib.Seq.{sets, take-suc, length-take-le, get_or-drop}
-use Rattle.basis.proofs.Sets.{sets_append}
+use mathlib.Core.Path.{◌≡◌, sym}
+use mathlib.Core.List.{List}
+use lib.ListN.{length, take, drop, length-drop}
+use lib.Seq.{sets, sets-eq, length-take-le, drop-drop}
+use borrow.Rule.Slice.PartMut.{put_mid}
+use Rattle.std.proofs.Common.{append_assoc}
 use Rattle.copying.specs.Copy.{Rooms}
 
--- `to₀` with the first i bytes copied is `to`
-pub record Copying (from : List ℕ) (start count : ℕ) (to₀ : List ℕ) (place i : ℕ) (to : List ℕ) : Type 0 where
-  pub some : i ≤ count
-  pub is : to ≡ sets to₀ place (take i (drop start from))
-  pub long : length to ≡ length to₀
-
-pub none_yet : (from : List ℕ) (start count : ℕ) (to : List ℕ) (place : ℕ) → Copying from start count to place 0 to
-none_yet from start count to place = record { some = omega arith; is = refl; long = refl }
-
--- one more
-pub one_more : {from : List ℕ} {start count : ℕ} {to₀ : List ℕ} {place i : ℕ} {to : List ℕ} → Rooms from start count to₀ place → Copying from start count to₀ place i to → i < count → Copying from start count to₀ place (i + 1) (set to (place + i) (get_or from (start + i) 0))
-one_more {from} {start} {count} {to₀} {place} {i} {to} rooms now h =
+pub part_copied : {from : List ℕ} {start count : ℕ} {to : List ℕ} {place : ℕ} → Rooms from start count to place
+    → {part : List ℕ} → part ≡ take (start + count - start) (drop start from)
+    → put_mid place (place + count - place) to part ≡ sets to place (take count (drop start from))
+part_copied {from} {start} {count} {to} {place} rooms is =
     let source : start + count ≤ length from = rooms.source in
-    let h₁ : i < length (drop start from) = rw (length-drop start from) (omega arith) in
-    let e : length (take i (drop start from)) ≡ i = length-take-le i (drop start from) (omega arith) in
-    let grown : take (i + 1) (drop start from) ≡ take i (drop start from) ++ (get_or (drop start from) i 0 ∷ []) = rw add-one (take-suc (drop start from) i 0 h₁) in
-    record {
-      some = omega arith;
-      is =
-          ap (λ (l : List ℕ). set l (place + i) (get_or from (start + i) 0)) now.is ∙
-          ap (λ (k : ℕ). set (sets to₀ place (take i (drop start from))) (place + k) (get_or from (start + i) 0)) (sym e) ∙
-          sets_append to₀ place (take i (drop start from)) (get_or from (start + i) 0 ∷ []) ∙
-          ap (λ (v : ℕ). sets to₀ place (take i (drop start from) ++ (v ∷ []))) (sym (get_or-drop start from i 0)) ∙
-          ap (sets to₀ place) (sym grown);
-      long = simp length-set now.long;
-    }
-
--- all of them
-pub all_done : {from : List ℕ} {start count : ℕ} {to₀ : List ℕ} {place i : ℕ} {to : List ℕ} → Copying from start count to₀ place i to → count ≤ i → to ≡ sets to₀ place (take count (drop start from))
-all_done {from} {start} {count} {to₀} {place} {i} {to} now h =
-    let e : i ≡ count = omega arith in
-    rw (← e) now.is
+    let target : place + count ≤ length to = rooms.target in
+    let copied = take count (drop start from) in
+    let read : start + count - start ≡ count = omega arith in
+    let written : place + count - place ≡ count = omega arith in
+    let long : length copied ≡ count = length-take-le count (drop start from) (rw (length-drop start from) (omega arith)) in
+    rw (written, is, read, drop-drop count place to, ← append_assoc) (sym (rw long at (sets-eq copied to place (omega arith))))

@@ -10,9 +10,5 @@ pub fn copy(from: &[u8], start: usize, count: usize, to: &mut [u8], place: usize
     requires { Rooms from.now start count to.old place }
     ensures { to.new ≡ sets to.old place (take count (drop start from.now)) }
 {
-    let mut i = 0;
-    while i < count {
-        to[place + i] = from[start + i];
-        i += 1;
-    }
+    to[place..place + count].copy_from_slice(&from[start..start + count]);
 }

@@ -17,7 +17,7 @@ use Rattle.row.proofs.Places.{header_below, place_suc}
 use Rattle.row.proofs.Rows.{row_from_same, mark_wrong_same, bytes_stay, bytes_new, take_stays, length_bytes_of, fields_bytes_of}
 use Rattle.names.specs.First.{name_of, name_at, first_of}
 use Rattle.table.specs.declared.Uses.{Uses}
-use Rattle.table.specs.declared.Verdict.{Verdict}
+use Rattle.table.specs.Verdict.{Verdict}
 use Rattle.table.specs.Uses.{uses_of}
 use Rattle.table.specs.Refusals.{width, rows, head_reasons, reference, wrong_sort, row_reasons, row_fault, check_rows, check_table, accepted}
 use Rattle.term.specs.Term.{Term, term_of, row_of}

@@ -6,7 +6,7 @@ use mathlib.Core.Bool.{true, false, cond}
 use mathlib.Core.List.{List, [], ◌∷◌, ◌++◌, append-nil}
 use Rattle.basis.specs.Reason.{Reason, ◌when◌, first}
 use Rattle.basis.proofs.Pick.{test_case}
-use Rattle.table.specs.declared.Verdict.{Verdict}
+use Rattle.table.specs.Verdict.{Verdict}
 use Rattle.table.specs.Refusals.{rows, given, accepted, check_rows}
 use Rattle.term.specs.Result.{removed_rows}
 use Rattle.term.specs.Bytes.{look, edited}

@@ -9,7 +9,7 @@ use lib.ListN.{length}
 use borrow.Author.Tests.{ne_eqb}
 use Rattle.basis.specs.Reason.{first}
 use Rattle.basis.proofs.Pick.{pick_case, pick_true, pick_false}
-use Rattle.table.specs.declared.Verdict.{Verdict}
+use Rattle.table.specs.Verdict.{Verdict}
 use Rattle.table.specs.Refusals.{refuse, given, check_rows}
 use Rattle.term.specs.Relation.{range_of}
 use Rattle.term.specs.Reason.{reason}

@@ -9,7 +9,7 @@ use lib.Dec.{ltb}
 use borrow.Author.Tests.{le-ltb}
 use Rattle.basis.specs.Reason.{Reason, ◌when◌, first}
 use Rattle.basis.proofs.Reasons.{numbered, first_skips, first_none, append_skips, append_first, append_second}
-use Rattle.table.specs.declared.Verdict.{Verdict}
+use Rattle.table.specs.Verdict.{Verdict}
 use Rattle.table.specs.Refusals.{head_reasons, refuse, accepted, given, check_rows, check_table}
 use Rattle.judge.specs.Run.{room_reasons}
 use Rattle.judge.proofs.Verdicts.{given_number, head_numbered}

@@ -16,7 +16,7 @@ use Rattle.basis.proofs.Reasons.{NoneHolds, numbered, none_first, first_none, fi
 use Rattle.row.specs.Names.{HEADER, LENGTH, place}
 use Rattle.row.proofs.Places.{header_below}
 use Rattle.row.proofs.Rows.{take_stays}
-use Rattle.table.specs.declared.Verdict.{Verdict}
+use Rattle.table.specs.Verdict.{Verdict}
 use Rattle.table.specs.Refusals.{rows, refuse, accepted, head_reasons}
 use Rattle.term.specs.Bytes.{edited}
 use Rattle.judge.specs.Verdict.{is_accepted}

@@ -3,7 +3,7 @@
 use Prim.Native.Nat.{ℕ}
 use mathlib.Core.Path.{◌≡◌, sym, ap, subst₂, ◌∙◌}
 use mathlib.Core.Bool.{true}
-use Rattle.table.specs.declared.Verdict.{Verdict}
+use Rattle.table.specs.Verdict.{Verdict}
 use Rattle.table.specs.Refusals.{refuse, accepted}
 use Rattle.table.proofs.Faulty.{refuse_number, refuse_row}
 use Rattle.judge.specs.Verdict.{is_accepted}

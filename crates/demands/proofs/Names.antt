@@ -15,14 +15,15 @@ use Rattle.table.proofs.Accepts.{accepted_gives}
 use Rattle.range.specs.declared.Range.{Range}
 use Rattle.term.specs.Term.{Term, const, shift, diff, row_of, stated_by}
 use Rattle.term.specs.Seen.{first_row, is_later, seen}
-use Rattle.term.specs.Base.{one, base_of, offset_of, base, offset}
+use Rattle.term.specs.declared.Base.TheVariants.{One}
+use Rattle.term.specs.Base.{base_of, offset_of, base, offset}
 use Rattle.term.specs.Relation.{range_of}
 use Rattle.term.specs.Rule.{diff_rule, rule}
 use Rattle.term.specs.Result.{rule_at, simplified}
 use Rattle.term.specs.Leads.{LeadsBack}
 use Rattle.term.specs.WellFormed.{Fits}
 use Rattle.term.specs.Bytes.{look, edited}
-use Rattle.term.proofs.Base.{base_same}
+use Rattle.term.proofs.Bases.{base_same}
 use Rattle.term.proofs.Seen.{stated_case, own_first, first_row_shared, by_name_own, by_name_later, by_name_bare}
 use Rattle.term.proofs.Renewed.{renewed_later, result_eq}
 use Rattle.term.proofs.WellFormed.{formed_below}
@@ -43,9 +44,9 @@ named_rule : (M limit : ℕ) (f : ℕ → Term) (g : ℕ → Range) (u : Term) �
 unfolding rule
 named_rule M limit f g = stated_case (λ u. rule M limit f g u ≡ u) (λ name k h. refl)
 
-named_base : (x : ℕ) (u : Term) → (stated_by u ≡ 0 → ⊥) → (base_of x u ≡ one x) × (offset_of u ≡ 0)
+named_base : (x : ℕ) (u : Term) → (stated_by u ≡ 0 → ⊥) → (base_of x u ≡ One x) × (offset_of u ≡ 0)
 unfolding base_of offset_of
-named_base x = stated_case (λ u. (base_of x u ≡ one x) × (offset_of u ≡ 0)) (λ name k h. (refl, refl))
+named_base x = stated_case (λ u. (base_of x u ≡ One x) × (offset_of u ≡ 0)) (λ name k h. (refl, refl))
 
 -- a fresh run of the table t into the buffer, accepted
 module _ (t buffer : List ℕ) (limit : ℕ) (granted : is_accepted (run_verdict t buffer limit) ≡ true) where
@@ -77,14 +78,14 @@ module _ (t buffer : List ℕ) (limit : ℕ) (granted : is_accepted (run_verdict
   first_stays x named own = left x ∙ fresh_first x named own
 
   -- either way its base is the first, its offset 0
-  first_is_base : (x : ℕ) → (stated_by (look t x) ≡ 0 → ⊥) → (base (fresh_rows limit t) x ≡ one (first_row (look t) x)) × (offset (fresh_rows limit t) x ≡ 0)
+  first_is_base : (x : ℕ) → (stated_by (look t x) ≡ 0 → ⊥) → (base (fresh_rows limit t) x ≡ One (first_row (look t) x)) × (offset (fresh_rows limit t) x ≡ 0)
   unfolding base offset base_of offset_of
   first_is_base x named =
       test_case (is_later (look t) x)
       (λ (later : is_later (look t) x ≡ true). (ap (base_of x) (fresh_later x later), ap offset_of (fresh_later x later)))
       (λ (own : is_later (look t) x ≡ false).
       let here = named_base x (look t x) named in (
-        ap (base_of x) (fresh_first x named own) ∙ here.0 ∙ ap one (sym (own_first (look t) x own)),
+        ap (base_of x) (fresh_first x named own) ∙ here.0 ∙ ap One (sym (own_first (look t) x own)),
         ap offset_of (fresh_first x named own) ∙ here.1,
       ))
 
@@ -98,7 +99,7 @@ module _ (t buffer : List ℕ) (limit : ℕ) (granted : is_accepted (run_verdict
       let at_y = first_is_base y (λ e. named (same ∙ e)) in
       let word : Fits M (diff x y k) = subst (Fits M) is ((formed t ok).fits z) in
       left z ∙ row_eq z ∙ by_name_bare (look t) z (ap stated_by is) _ ∙ ap (rule M limit (fresh_rows limit t) (range_of M (fresh_rows limit t))) is ∙
-      pick_true _ _ _ (base_same _ _ (at_x.0 ∙ ap one (first_row_shared (look t) x y named same) ∙ sym at_y.0)) ∙
+      pick_true _ _ _ (base_same _ _ (at_x.0 ∙ ap One (first_row_shared (look t) x y named same) ∙ sym at_y.0)) ∙
       ap₂ (λ (p q : ℕ). const (plus M (minus M p q) k)) at_x.1 at_y.1 ∙
       ap (λ (d : ℕ). const (plus M d k)) (minus_self M (positive t) 0) ∙
       ap const (plus_comm M (positive t) 0 k ∙ plus_zero M (positive t) k word)

@@ -12,7 +12,7 @@ use Rattle.basis.specs.Reason.{Reason, ◌when◌}
 use Rattle.basis.proofs.Pick.{and_left, and_right}
 use Rattle.basis.proofs.Reasons.{NoneHolds, FirstHolds, numbered, none_first, first_holds, first_here, append_skips}
 use Rattle.row.specs.Bytes.{row_at}
-use Rattle.table.specs.declared.Verdict.{Verdict}
+use Rattle.table.specs.Verdict.{Verdict}
 use Rattle.table.specs.Refusals.{refuse, accepted, head_reasons, row_reasons}
 use Rattle.table.proofs.Exactly.{RowRefused}
 use Rattle.judge.specs.Verdict.{is_accepted}

@@ -10,7 +10,7 @@ use borrow.Author.Tests.{eqb-true, eqb-false}
 use Rattle.basis.specs.Reason.{Reason, first}
 use Rattle.basis.proofs.Pick.{test_case}
 use Rattle.basis.proofs.Reasons.{NoneHolds, FirstHolds, numbered, first_none, none_first, first_holds, holds_first}
-use Rattle.table.specs.declared.Verdict.{Verdict}
+use Rattle.table.specs.Verdict.{Verdict}
 use Rattle.table.specs.Refusals.{head_reasons, refuse, accepted, given, check_rows, check_table}
 use Rattle.table.proofs.Faulty.{given_passes, given_refuses}
 use Rattle.table.proofs.Exactly.{HeadRefused, RowRefused, row_refusal, given_refusal}

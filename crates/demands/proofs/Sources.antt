@@ -18,7 +18,7 @@ use Rattle.row.specs.Names.{HEADER, place}
 use Rattle.row.specs.Bytes.{source_at}
 use Rattle.row.proofs.Places.{header_below, room_in}
 use Rattle.row.proofs.Whole.{source_small}
-use Rattle.table.specs.declared.Verdict.{Verdict}
+use Rattle.table.specs.Verdict.{Verdict}
 use Rattle.table.specs.Refusals.{rows, refuse, accepted, check_rows}
 use Rattle.table.specs.Accepted.{Accepted}
 use Rattle.table.proofs.Heads.{good_head}

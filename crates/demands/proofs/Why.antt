@@ -11,7 +11,7 @@ use lib.Seq.{sets, sets-eq, take_at, drop_at}
 use Rattle.basis.proofs.Pick.{pick_true, or_true_left}
 use Rattle.row.specs.Bytes.{source_at}
 use Rattle.row.proofs.Whole.{source_small}
-use Rattle.table.specs.declared.Verdict.{Verdict}
+use Rattle.table.specs.Verdict.{Verdict}
 use Rattle.table.specs.Refusals.{rows, MOST}
 use Rattle.table.specs.Accepted.{Accepted}
 use Rattle.table.proofs.Accepts.{accepted_gives}
@@ -21,7 +21,7 @@ use Rattle.term.specs.Base.{base, offset}
 use Rattle.term.specs.Walk.{compared}
 use Rattle.term.specs.Reason.{meets}
 use Rattle.term.specs.Bytes.{look}
-use Rattle.term.proofs.Base.{base_same}
+use Rattle.term.proofs.Bases.{base_same}
 use Rattle.term.proofs.Reasons.{Grounds, reason_grounds, shared_base_named}
 use Rattle.term.proofs.Follows.{Each, met_each}
 use Rattle.meaning.specs.Meaning.{Choice, Permitted, value}

@@ -2,7 +2,7 @@
 -- about a kept result is held to (document 02, A6), at the limit that the kept result was made with (A8).
 use Rattle.std.specs.Prelude.{ℕ, cond, List}
 use Rattle.basis.specs.Reason.{first}
-use Rattle.table.specs.declared.Verdict.{Verdict}
+use Rattle.table.specs.Verdict.{Verdict}
 use Rattle.table.specs.Refusals.{given, check_rows}
 use Rattle.term.specs.declared.Relation.{Relation}
 use Rattle.term.specs.declared.Relation.TheVariants.{Unknown}

@@ -5,7 +5,7 @@ use Rattle.std.proofs.lemmas.List.Edits.{sets}
 use Rattle.basis.specs.Reason.{Reason, ◌when◌, first}
 use Rattle.row.specs.Names.{HEADER, LENGTH}
 use Rattle.row.specs.Bytes.{source_at}
-use Rattle.table.specs.declared.Verdict.{Verdict}
+use Rattle.table.specs.Verdict.{Verdict}
 use Rattle.table.specs.Refusals.{rows, given, accepted, check_rows}
 use Rattle.term.specs.Term.{Term}
 use Rattle.term.specs.Result.{result, renewed, removed_rows}

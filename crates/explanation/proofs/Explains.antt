@@ -8,6 +8,7 @@ use mathlib.Core.List.{List, ◌++◌}
 use lib.ListN.{length, take, drop}
 use lib.Seq.{sets, length-sets}
 use lib.Pow.{pow_mono, pow_pos}
+use Rattle.range.specs.declared.Range.{Range}
 use Rattle.range.specs.Store.{kept}
 use Rattle.row.specs.declared.Row.{Row}
 use Rattle.row.specs.Names.{HEADER, place}
@@ -76,7 +77,7 @@ module _ (t buffer : List ℕ) (x : ℕ) (can : Explainable t buffer x) where
       small_term (2 ^ width t) y (pow_mono ok.head.width_high) (let few : rows t ≤ MOST = ok.head.few in omega arith) (fresh_rows LIMIT t y) (formed.fits y)
       (run_names_small LIMIT t ok y) (below y)
 
-  module _ {left store : List ℕ} {counts : Counts} (run : Freshly t buffer LIMIT left store counts) where
+  module _ {left : List ℕ} {store : List Range} {counts : Counts} (run : Freshly t buffer LIMIT left store counts) where
     long : length left ≡ length buffer
     long = ap length run.result ∙ fresh_length LIMIT t buffer
 

@@ -10,7 +10,7 @@ use lib.Dec.{ltb, leb}
 use borrow.Author.Tests.{lt-ltb, le-ltb, lt-leb}
 use Rattle.basis.specs.Reason.{first}
 use Rattle.basis.proofs.Reasons.{append_skips, append_first, first_here, first_skips}
-use Rattle.table.specs.declared.Verdict.{Verdict}
+use Rattle.table.specs.Verdict.{Verdict}
 use Rattle.table.specs.Refusals.{rows, refuse, accepted, given, check_rows, check_table}
 use Rattle.table.proofs.Faulty.{given_passes}
 use Rattle.term.specs.Term.{is_read}

@@ -11,7 +11,10 @@ use Rattle.basis.proofs.Reasons.{append_skips, append_here, first_here, first_sk
 use Rattle.row.specs.Names.{LENGTH, READ, place}
 use Rattle.row.specs.Bytes.{row_at}
 use Rattle.row.proofs.Places.{room_in}
-use Rattle.table.specs.declared.Verdict.{Verdict}
+use Rattle.table.specs.declared.Fault.{Fault}
+use Rattle.table.specs.Verdict.{Verdict}
+use Rattle.table.specs.Fault.{number_of}
+use Rattle.table.proofs.Told.{fault_some}
 use Rattle.table.specs.Refusals.{rows, refuse, accepted, given}
 use Rattle.table.proofs.Heads.{good_head}
 use Rattle.term.specs.Term.{is_read}
@@ -23,22 +26,22 @@ use Rattle.explanation.specs.Why.{row_reasons, read_reasons}
 use Rattle.explanation.specs.Ready.{There}
 
 -- 1 to 7
-module _ (t buffer : List ℕ) (x : ℕ) {number : ℕ} (told : number ≡ first (room_reasons t buffer)) where
-  pub row_room : (number ≡ 0 → ⊥) → number ≡ first (row_reasons t buffer x)
+module _ (t buffer : List ℕ) (x : ℕ) where
+  pub row_room : (fault : Fault) → number_of fault ≡ first (room_reasons t buffer) → number_of fault ≡ first (row_reasons t buffer x)
   unfolding row_reasons
-  row_room h = told ∙ sym (append_here (room_reasons t buffer) _ (λ z. h (told ∙ z)))
+  row_room fault told = told ∙ sym (append_here (room_reasons t buffer) _ (λ z. fault_some fault (told ∙ z)))
 
-  module _ (z : number ≡ 0) {n : ℕ} (is : n ≡ rows t) where
+  module _ (none : 0 ≡ first (room_reasons t buffer)) {n : ℕ} (is : n ≡ rows t) where
     pub row_beyond : n ≤ x → 7 ≡ first (row_reasons t buffer x)
     unfolding row_reasons
     row_beyond l =
-        sym (append_skips (room_reasons t buffer) _ (room_numbered t buffer) (sym told ∙ z) ∙ first_here 7 _ [] (le-leb (rows t) x (rw is at l)))
+        sym (append_skips (room_reasons t buffer) _ (room_numbered t buffer) (sym none) ∙ first_here 7 _ [] (le-leb (rows t) x (rw is at l)))
 
     pub row_fine : x < n → 0 ≡ first (row_reasons t buffer x)
     unfolding row_reasons first
     row_fine l =
         sym
-        (append_skips (room_reasons t buffer) _ (room_numbered t buffer) (sym told ∙ z) ∙
+        (append_skips (room_reasons t buffer) _ (room_numbered t buffer) (sym none) ∙
         first_skips 7 (leb (rows t) x) [] (lt-leb (rows t) x (rw is at l)))
 
 -- 17

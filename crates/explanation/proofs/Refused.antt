@@ -9,7 +9,7 @@ use borrow.Author.Tests.{ltb-true, leb-false, eqb-true, eqb-false, ne_eqb, not-f
 use Rattle.basis.specs.Reason.{Reason, ◌when◌, first}
 use Rattle.basis.proofs.Pick.{test_case, pick_case, and_left, and_right}
 use Rattle.basis.proofs.Reasons.{first_none, append_first, append_second}
-use Rattle.table.specs.declared.Verdict.{Verdict}
+use Rattle.table.specs.Verdict.{Verdict}
 use Rattle.table.specs.Refusals.{rows, head_reasons, row_reasons as rowFaults, row_fault, refuse, accepted, given, first_faulty, check_rows}
 use Rattle.table.proofs.Faulty.{given_passes, given_refuses}
 use Rattle.term.specs.Term.{is_read}

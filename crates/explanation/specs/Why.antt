@@ -3,7 +3,7 @@ use Rattle.std.specs.Prelude.{ℕ, ◌≡◌, Bool, cond, not, ◌||◌, List, [
 use Rattle.std.proofs.lemmas.List.Edits.{sets}
 use Rattle.basis.specs.Reason.{Reason, ◌when◌, first}
 use Rattle.row.specs.Bytes.{source_at}
-use Rattle.table.specs.declared.Verdict.{Verdict}
+use Rattle.table.specs.Verdict.{Verdict}
 use Rattle.table.specs.Refusals.{rows, given, check_rows, accepted}
 use Rattle.term.specs.Term.{row_of, is_read}
 use Rattle.term.specs.Relation.{range_of}

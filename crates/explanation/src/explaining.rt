@@ -1,20 +1,23 @@
 // The answer to why a read moved.
 ghost use Rattle.std.specs.Prelude.{◌≡◌};
+ghost use Rattle.table.specs.Fault.{number_of};
 ghost use Rattle.explanation.specs.Why.{listing, Explained};
 ghost use Rattle.explanation.specs.Ready.{Explainable};
 
 use super::judging;
 use crate::Listing;
+use range::Store;
 use simplify::Answer;
+use table::{Fault, Refusal};
 use tracing::put_list;
 
 // The answer of a refusal, with the length of the list where it is known.
-fn not_listed(number: u64, row: u64, length: u64) -> Listing
-    ensures { result ≡ listing number row 0 0 length }
+fn not_listed(refusal: Refusal, length: u64) -> Listing
+    ensures { result ≡ listing (number_of refusal.fault) refusal.row 0 0 length }
 {
     Listing {
-        answer: simplify::refused(number, row),
-        length: length,
+        answer: refusal.into(),
+        length,
     }
 }
 
@@ -25,13 +28,13 @@ fn explain(table: &[u8], res: &mut [u8], r: usize, list: &mut [u8]) -> Listing
 {
     let mut saved = [0u8; table::LARGEST];
     copying::copy(res, 0, table.len(), &mut saved, 0);
-    let mut store = [0u64; 2048];
+    let mut store = Store::new();
     let counts = simplify::fresh(table, res, &mut store, judge::LIMIT);
     let mut none = [0u8; 1];
     let length = put_list(&mut none, table, res, &store, r);
     if list.len() < length {
         copying::copy(&saved, 0, table.len(), res, 0);
-        return not_listed(22, 0, length as u64);
+        return not_listed(Fault::ListTooShort.into(), length as u64);
     }
     put_list(list, table, res, &store, r);
     Listing {
@@ -50,14 +53,12 @@ fn explain(table: &[u8], res: &mut [u8], r: usize, list: &mut [u8]) -> Listing
 pub fn why(table: &[u8], res: &mut [u8], row: u64, list: &mut [u8]) -> Listing
     ensures { Explained table.now res.old row list.old result res.new list.new }
 {
-    let number = judging::row(table, res, row);
-    if number != 0 {
-        return not_listed(number, 0, 0);
+    if let Err(fault) = judging::row(table, res, row) {
+        return not_listed(fault.into(), 0);
     }
     let r = row as usize;
-    let verdict = judging::read(table, r);
-    if verdict.number != 0 {
-        return not_listed(verdict.number, verdict.row, 0);
+    if let Err(refusal) = judging::read(table, r) {
+        return not_listed(refusal, 0);
     }
     explain(table, res, r, list)
 }

@@ -16,7 +16,6 @@ pub record Named (t : List ℕ) (r : ℕ) (u : Uses) (x : Row) (f : ℕ) : Type 
 -- what the check asks of row r, which is x, and of u and w before it looks at the row's own bytes
 pub record OwnAsked (t : List ℕ) (w r : ℕ) (u : Uses) (x : Row) : Type 0 where
   pub is_width : w ≡ width t
-  pub width_high : w ≤ 64
   pub is_uses : u ≡ uses_of x.kind
   pub within : place r + LENGTH ≤ length t
 

@@ -13,53 +13,29 @@ pub fn byte(t: &[u8], i: usize) -> u64
     t[i] as u64
 }
 
-// The number in the two bytes from i on.
-pub fn two(t: &[u8], i: usize) -> usize
-    requires { i + 2 ≤ length t.now }
-    ensures { Read (number 2 t.now i) 65536 result }
+// The number in the N bytes from i on.
+#[tactic(auto, using(crate::proofs::Numbers::down_begins, crate::proofs::Numbers::down_goes_on, crate::proofs::Numbers::down_fits, crate::proofs::Numbers::down_ends))]
+pub fn number<const N: usize>(t: &[u8], i: usize) -> u64
+    requires fits { N ≤ 8 }
+    requires room { i + N ≤ length t.now }
+    ensures { Read (number N t.now i) (256 ^ N) result }
 {
-    (byte(t, i) + 256 * byte(t, i + 1)) as usize
+    let mut v = 0;
+    for k in (0..N).rev() {
+        v = 256 * v + byte(t, i + k);
+    }
+    v
 }
 
-// The number in the four bytes from i on.
-pub fn four(t: &[u8], i: usize) -> u64
-    requires { i + 4 ≤ length t.now }
-    ensures { Read (number 4 t.now i) (2 ^ 32) result }
+// Writes the N lowest bytes of v from i on.
+#[tactic(auto, using(crate::proofs::Numbers::up_begins, crate::proofs::Numbers::none_behind))]
+pub fn put<const N: usize>(t: &mut [u8], i: usize, v: u64)
+    requires { i + N ≤ length t.old }
+    ensures { t.new ≡ sets t.old i (bytes N v) }
 {
-    byte(t, i) + 256 * (byte(t, i + 1) + 256 * (byte(t, i + 2) + 256 * byte(t, i + 3)))
-}
-
-// The number in the eight bytes from i on.
-pub fn eight(t: &[u8], i: usize) -> u64
-    requires { i + 8 ≤ length t.now }
-    ensures { result ≡ number 8 t.now i }
-{
-    four(t, i) + 256 * 256 * 256 * 256 * four(t, i + 4)
-}
-
-// Writes the two lowest bytes of v from i on.
-pub fn put_two(t: &mut [u8], i: usize, v: usize)
-    requires { i + 2 ≤ length t.old }
-    ensures { t.new ≡ sets t.old i (bytes 2 v) }
-{
-    t[i] = (v % 256) as u8;
-    t[i + 1] = (v / 256 % 256) as u8;
-}
-
-// Writes the four lowest bytes of v from i on.
-pub fn put_four(t: &mut [u8], i: usize, v: u64)
-    requires { i + 4 ≤ length t.old }
-    ensures { t.new ≡ sets t.old i (bytes 4 v) }
-{
-    put_two(t, i, v as usize);
-    put_two(t, i + 2, (v / 256 / 256) as usize);
-}
-
-// Writes the eight bytes of v from i on.
-pub fn put_eight(t: &mut [u8], i: usize, v: u64)
-    requires { i + 8 ≤ length t.old }
-    ensures { t.new ≡ sets t.old i (bytes 8 v) }
-{
-    put_four(t, i, v);
-    put_four(t, i + 4, v / 256 / 256 / 256 / 256);
+    let mut rest = v;
+    for k in 0..N {
+        t[i + k] = (rest % 256) as u8;
+        rest /= 256;
+    }
 }

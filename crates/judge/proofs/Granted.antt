@@ -10,7 +10,7 @@ use Rattle.basis.specs.Reason.{◌when◌, first}
 use Rattle.basis.proofs.Pick.{or_left, or_right}
 use Rattle.basis.proofs.Reasons.{numbered, first_none, first_skips, append_skips, append_first, append_second}
 use Rattle.row.specs.Names.{LENGTH}
-use Rattle.table.specs.declared.Verdict.{Verdict}
+use Rattle.table.specs.Verdict.{Verdict}
 use Rattle.table.specs.Refusals.{rows, refuse, accepted, given, check_rows, check_table, head_reasons}
 use Rattle.table.proofs.Faulty.{given_passes}
 use Rattle.term.specs.Term.{is_array}

@@ -12,8 +12,12 @@ use Rattle.basis.proofs.Pick.{test_case, or_true_left, or_true_right, or_false}
 use Rattle.basis.proofs.Reasons.{numbered, append_skips, append_here, first_here, first_skips}
 use Rattle.row.specs.Names.{HEADER, LENGTH, place}
 use Rattle.row.specs.Bytes.{row_at}
-use Rattle.table.specs.declared.Verdict.{Verdict}
-use Rattle.table.specs.Uses.{ARRAY, sort_of}
+use Rattle.table.specs.Verdict.{Verdict}
+use Rattle.table.specs.declared.Sort.TheVariants.{Array}
+use Rattle.table.specs.Uses.{is_sort, sort_of}
+use Rattle.table.specs.declared.Fault.{Fault}
+use Rattle.table.specs.Fault.{number_of}
+use Rattle.table.proofs.Told.{fault_some}
 use Rattle.table.specs.Refusals.{rows, refuse, accepted, given, check_rows, head_reasons}
 use Rattle.table.proofs.Heads.{long_head, good_head}
 use Rattle.table.proofs.Faulty.{given_passes, given_refuses}
@@ -31,27 +35,27 @@ use Rattle.judge.proofs.Verdicts.{rows_pass, rows_after, head_numbered}
 use Rattle.judge.proofs.Right.{kept_stops, kept_goes}
 use Rattle.judge.proofs.Granted.{room_numbered, roomy, run_ready}
 
--- a number that is not 0 is the first of any longer list too
-later : (xs ys : List Reason) {number : ℕ} → number ≡ first xs → (number ≡ 0 → ⊥) → number ≡ first (xs ++ ys)
-later xs ys e h = e ∙ sym (append_here xs ys (λ z. h (e ∙ z)))
+-- the number of a fault is the first of any longer list too
+later : (xs ys : List Reason) (fault : Fault) → number_of fault ≡ first xs → number_of fault ≡ first (xs ++ ys)
+later xs ys fault e = e ∙ sym (append_here xs ys (λ z. fault_some fault (e ∙ z)))
 
--- where it is 0, the reasons that follow decide
-onward : (xs ys : List Reason) {number : ℕ} → numbered xs ≡ true → number ≡ first xs → number ≡ 0 → {answer : ℕ} → first ys ≡ answer → answer ≡ first (xs ++ ys)
-onward xs ys k e z f = sym (append_skips xs ys k (sym e ∙ z) ∙ f)
+-- where there is none, the reasons that follow decide
+onward : (xs ys : List Reason) → numbered xs ≡ true → 0 ≡ first xs → {answer : ℕ} → first ys ≡ answer → answer ≡ first (xs ++ ys)
+onward xs ys k e f = sym (append_skips xs ys k (sym e) ∙ f)
 
 -- 1 to 6
-module _ (t buffer : List ℕ) {number : ℕ} where
-  pub room_head : number ≡ first (head_reasons t) → (number ≡ 0 → ⊥) → number ≡ first (room_reasons t buffer)
+module _ (t buffer : List ℕ) where
+  pub room_head : (fault : Fault) → number_of fault ≡ first (head_reasons t) → number_of fault ≡ first (room_reasons t buffer)
   unfolding room_reasons
-  room_head e h = later (head_reasons t) _ e h
+  room_head fault e = later (head_reasons t) _ fault e
 
-  pub room_short : number ≡ first (head_reasons t) → number ≡ 0 → length buffer < length t → 6 ≡ first (room_reasons t buffer)
+  pub room_short : 0 ≡ first (head_reasons t) → length buffer < length t → 6 ≡ first (room_reasons t buffer)
   unfolding room_reasons
-  room_short e z l = onward (head_reasons t) _ (head_numbered t) e z (first_here 6 _ [] (lt-ltb (length buffer) (length t) l))
+  room_short e l = onward (head_reasons t) _ (head_numbered t) e (first_here 6 _ [] (lt-ltb (length buffer) (length t) l))
 
-  pub room_enough : number ≡ first (head_reasons t) → number ≡ 0 → length t ≤ length buffer → 0 ≡ first (room_reasons t buffer)
+  pub room_enough : 0 ≡ first (head_reasons t) → length t ≤ length buffer → 0 ≡ first (room_reasons t buffer)
   unfolding room_reasons first
-  room_enough e z l = onward (head_reasons t) _ (head_numbered t) e z (first_skips 6 _ [] (le-ltb (length buffer) (length t) l))
+  room_enough e l = onward (head_reasons t) _ (head_numbered t) e (first_skips 6 _ [] (le-ltb (length buffer) (length t) l))
 
 -- 19
 pub limit_high : (limit : ℕ) → LIMIT < limit → 19 ≡ first (limit_reasons limit)
@@ -63,77 +67,78 @@ unfolding limit_reasons first
 limit_fine limit l = sym (first_skips 19 _ [] (le-ltb LIMIT limit l))
 
 -- a run
-module _ (t buffer : List ℕ) (limit : ℕ) {number : ℕ} where
-  pub run_room : number ≡ first (room_reasons t buffer) → (number ≡ 0 → ⊥) → number ≡ first (run_reasons t buffer limit)
+module _ (t buffer : List ℕ) (limit : ℕ) where
+  pub run_room : (fault : Fault) → number_of fault ≡ first (room_reasons t buffer) → number_of fault ≡ first (run_reasons t buffer limit)
   unfolding run_reasons
-  run_room e h = later (room_reasons t buffer) _ e h
+  run_room fault e = later (room_reasons t buffer) _ fault e
 
-  pub run_limited : number ≡ first (room_reasons t buffer) → number ≡ 0 → {n : ℕ} → n ≡ first (limit_reasons limit) → n ≡ first (run_reasons t buffer limit)
+  pub run_limited : 0 ≡ first (room_reasons t buffer) → {n : ℕ} → n ≡ first (limit_reasons limit) → n ≡ first (run_reasons t buffer limit)
   unfolding run_reasons
-  run_limited e z f = onward (room_reasons t buffer) _ (room_numbered t buffer) e z (sym f)
+  run_limited e f = onward (room_reasons t buffer) _ (room_numbered t buffer) e (sym f)
 
-  pub run_refused_lem : number ≡ first (run_reasons t buffer limit) → (number ≡ 0 → ⊥) → ◌≡◌ {A = Verdict} (record { number = number; row = 0 }) (run_verdict t buffer limit)
+  pub run_refused_lem : (fault : Fault) → number_of fault ≡ first (run_reasons t buffer limit) → ◌≡◌ {A = Verdict} (record { number = number_of fault; row = 0 }) (run_verdict t buffer limit)
   unfolding run_verdict refuse
-  run_refused_lem e h = ap (λ (n : ℕ). refuse n 0) e ∙ sym (given_refuses (first (run_reasons t buffer limit)) 0 (check_rows t accepted) (λ z. h (e ∙ z)))
+  run_refused_lem fault e =
+      ap (λ (n : ℕ). refuse n 0) e ∙ sym (given_refuses (first (run_reasons t buffer limit)) 0 (check_rows t accepted) (λ z. fault_some fault (e ∙ z)))
 
-  pub head_passes : number ≡ first (run_reasons t buffer limit) → number ≡ 0 → first (head_reasons t) ≡ 0
-  head_passes e z = (run_ready t buffer limit (sym e ∙ z)).roomy.head
+  pub head_passes : 0 ≡ first (run_reasons t buffer limit) → first (head_reasons t) ≡ 0
+  head_passes e = (run_ready t buffer limit (sym e)).roomy.head
 
-  pub run_judged : {v : Verdict} → number ≡ first (run_reasons t buffer limit) → number ≡ 0 → v ≡ check_rows t accepted → v ≡ run_verdict t buffer limit
+  pub run_judged : {v : Verdict} → 0 ≡ first (run_reasons t buffer limit) → v ≡ check_rows t accepted → v ≡ run_verdict t buffer limit
   unfolding run_verdict
-  run_judged e z f = f ∙ sym (given_passes (first (run_reasons t buffer limit)) 0 (check_rows t accepted) (sym e ∙ z))
+  run_judged e f = f ∙ sym (given_passes (first (run_reasons t buffer limit)) 0 (check_rows t accepted) (sym e))
 
 -- a table whose head passes has a header
-pub header_there : (t buffer : List ℕ) {number : ℕ} → number ≡ first (room_reasons t buffer) → number ≡ 0 → HEADER ≤ length t
-header_there t buffer e z = long_head t (roomy t buffer (sym e ∙ z)).head
+pub header_there : (t buffer : List ℕ) → 0 ≡ first (room_reasons t buffer) → HEADER ≤ length t
+header_there t buffer e = long_head t (roomy t buffer (sym e)).head
 
 -- 7, 8 and 19 of an edit
-module _ (t kept : List ℕ) (r : ℕ) (new : List ℕ) (limit : ℕ) {number : ℕ} where
-  pub edit_room : number ≡ first (room_reasons t kept) → (number ≡ 0 → ⊥) → number ≡ first (edit_reasons t kept r new limit)
+module _ (t kept : List ℕ) (r : ℕ) (new : List ℕ) (limit : ℕ) where
+  pub edit_room : (fault : Fault) → number_of fault ≡ first (room_reasons t kept) → number_of fault ≡ first (edit_reasons t kept r new limit)
   unfolding edit_reasons
-  edit_room e h = later (room_reasons t kept) _ e h
+  edit_room fault e = later (room_reasons t kept) _ fault e
 
-  pub edit_row : number ≡ first (room_reasons t kept) → number ≡ 0 → {n : ℕ} → n ≡ rows t → n ≤ r → 7 ≡ first (edit_reasons t kept r new limit)
+  pub edit_row : 0 ≡ first (room_reasons t kept) → {n : ℕ} → n ≡ rows t → n ≤ r → 7 ≡ first (edit_reasons t kept r new limit)
   unfolding edit_reasons
-  edit_row e z is l = onward (room_reasons t kept) _ (room_numbered t kept) e z (first_here 7 _ _ (le-leb (rows t) r (rw is at l)))
+  edit_row e is l = onward (room_reasons t kept) _ (room_numbered t kept) e (first_here 7 _ _ (le-leb (rows t) r (rw is at l)))
 
-  pub edit_long : number ≡ first (room_reasons t kept) → number ≡ 0 → {n : ℕ} → n ≡ rows t → r < n → (length new ≡ LENGTH → ⊥) → 8 ≡ first (edit_reasons t kept r new limit)
+  pub edit_long : 0 ≡ first (room_reasons t kept) → {n : ℕ} → n ≡ rows t → r < n → (length new ≡ LENGTH → ⊥) → 8 ≡ first (edit_reasons t kept r new limit)
   unfolding edit_reasons
-  edit_long e z is l h =
-      onward (room_reasons t kept) _ (room_numbered t kept) e z
+  edit_long e is l h =
+      onward (room_reasons t kept) _ (room_numbered t kept) e
       (first_skips 7 _ _ (lt-leb (rows t) r (rw is at l)) ∙ first_here 8 _ _ (ap not (ne_eqb (length new) LENGTH h)))
 
-  pub edit_limited : number ≡ first (room_reasons t kept) → number ≡ 0 → {n : ℕ} → n ≡ rows t → r < n → length new ≡ LENGTH →
+  pub edit_limited : 0 ≡ first (room_reasons t kept) → {n : ℕ} → n ≡ rows t → r < n → length new ≡ LENGTH →
       {m : ℕ} → m ≡ first (limit_reasons limit) → m ≡ first (edit_reasons t kept r new limit)
   unfolding edit_reasons
-  edit_limited e z is l h f =
-      onward (room_reasons t kept) _ (room_numbered t kept) e z
+  edit_limited e is l h f =
+      onward (room_reasons t kept) _ (room_numbered t kept) e
       (first_skips 7 (leb (rows t) r) (8 when not (eqb (length new) LENGTH) ∷ limit_reasons limit) (lt-leb (rows t) r (rw is at l)) ∙
       first_skips 8 (not (eqb (length new) LENGTH)) (limit_reasons limit) (ap not (eq-eqb (length new) LENGTH h)) ∙ sym f)
 
 -- 7 of a question
-module _ (t buffer : List ℕ) (x y : ℕ) {number : ℕ} where
-  pub pair_room : number ≡ first (room_reasons t buffer) → (number ≡ 0 → ⊥) → number ≡ first (pair_reasons t buffer x y)
+module _ (t buffer : List ℕ) (x y : ℕ) where
+  pub pair_room : (fault : Fault) → number_of fault ≡ first (room_reasons t buffer) → number_of fault ≡ first (pair_reasons t buffer x y)
   unfolding pair_reasons
-  pair_room e h = later (room_reasons t buffer) _ e h
+  pair_room fault e = later (room_reasons t buffer) _ fault e
 
-  pub pair_first : number ≡ first (room_reasons t buffer) → number ≡ 0 → {n : ℕ} → n ≡ rows t → n ≤ x → 7 ≡ first (pair_reasons t buffer x y)
+  pub pair_first : 0 ≡ first (room_reasons t buffer) → {n : ℕ} → n ≡ rows t → n ≤ x → 7 ≡ first (pair_reasons t buffer x y)
   unfolding pair_reasons
-  pair_first e z is l = onward (room_reasons t buffer) _ (room_numbered t buffer) e z (first_here 7 _ [] (or_true_left (leb (rows t) x) (leb (rows t) y) (le-leb (rows t) x (rw is at l))))
+  pair_first e is l = onward (room_reasons t buffer) _ (room_numbered t buffer) e (first_here 7 _ [] (or_true_left (leb (rows t) x) (leb (rows t) y) (le-leb (rows t) x (rw is at l))))
 
-  pub pair_second : number ≡ first (room_reasons t buffer) → number ≡ 0 → {n : ℕ} → n ≡ rows t → n ≤ y → 7 ≡ first (pair_reasons t buffer x y)
+  pub pair_second : 0 ≡ first (room_reasons t buffer) → {n : ℕ} → n ≡ rows t → n ≤ y → 7 ≡ first (pair_reasons t buffer x y)
   unfolding pair_reasons
-  pair_second e z is l = onward (room_reasons t buffer) _ (room_numbered t buffer) e z (first_here 7 _ [] (or_true_right (leb (rows t) x) (leb (rows t) y) (le-leb (rows t) y (rw is at l))))
+  pair_second e is l = onward (room_reasons t buffer) _ (room_numbered t buffer) e (first_here 7 _ [] (or_true_right (leb (rows t) x) (leb (rows t) y) (le-leb (rows t) y (rw is at l))))
 
-  pub pair_fine : number ≡ first (room_reasons t buffer) → number ≡ 0 → {n : ℕ} → n ≡ rows t → x < n → y < n → 0 ≡ first (pair_reasons t buffer x y)
+  pub pair_fine : 0 ≡ first (room_reasons t buffer) → {n : ℕ} → n ≡ rows t → x < n → y < n → 0 ≡ first (pair_reasons t buffer x y)
   unfolding pair_reasons first
-  pair_fine e z is l m =
-      onward (room_reasons t buffer) _ (room_numbered t buffer) e z
+  pair_fine e is l m =
+      onward (room_reasons t buffer) _ (room_numbered t buffer) e
       (first_skips 7 _ [] (or_false (leb (rows t) x) (leb (rows t) y) (lt-leb (rows t) x (rw is at l)) (lt-leb (rows t) y (rw is at m))))
 
-pub array_told : (t : List ℕ) (x : ℕ) {kind : ℕ} {b : Bool} → kind ≡ (row_at t x).kind → b ≡ eqb (sort_of kind) ARRAY → b ≡ is_array (look t x)
+pub array_told : (t : List ℕ) (x : ℕ) {kind : ℕ} {b : Bool} → kind ≡ (row_at t x).kind → b ≡ is_sort Array (sort_of kind) → b ≡ is_array (look t x)
 unfolding look
-array_told t x e f = f ∙ ap (λ (k : ℕ). eqb (sort_of k) ARRAY) e ∙ sym (sort_term (row_at t x))
+array_told t x e f = f ∙ ap (λ (k : ℕ). is_sort Array (sort_of k)) e ∙ sym (sort_term (row_at t x))
 
 -- ---- 9 to 15 and 18, then 16, then 14 of a question
 

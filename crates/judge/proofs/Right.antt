@@ -12,7 +12,7 @@ use Rattle.basis.proofs.Reasons.{first_here, first_skips}
 use Rattle.basis.proofs.Counts.{any_none}
 use Rattle.row.specs.Names.{HEADER}
 use Rattle.in_bytes.specs.Numbers.{byte}
-use Rattle.table.specs.declared.Verdict.{Verdict}
+use Rattle.table.specs.Verdict.{Verdict}
 use Rattle.table.specs.Refusals.{width, rows, refuse, given, check_table}
 use Rattle.table.specs.Accepted.{Accepted}
 use Rattle.table.proofs.Accepts.{accepted_gives}

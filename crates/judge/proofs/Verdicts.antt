@@ -10,7 +10,7 @@ use Rattle.basis.specs.Reason.{first}
 use Rattle.basis.proofs.Pick.{test_case}
 use Rattle.basis.proofs.Reasons.{numbered}
 use Rattle.row.specs.Names.{HEADER}
-use Rattle.table.specs.declared.Verdict.{Verdict}
+use Rattle.table.specs.Verdict.{Verdict}
 use Rattle.table.specs.Refusals.{rows, refuse, accepted, given, first_faulty, check_rows, check_table, row_fault, head_reasons}
 use Rattle.table.proofs.Faulty.{given_passes}
 use Rattle.term.proofs.Acceptable.{same_width, same_rows, same_head}

@@ -2,7 +2,7 @@
 -- "Comparison"; document 02, A6).
 use Rattle.std.specs.Prelude.{ℕ, ◌||◌, List, [], ◌∷◌, ◌++◌, leb}
 use Rattle.basis.specs.Reason.{Reason, ◌when◌, first}
-use Rattle.table.specs.declared.Verdict.{Verdict}
+use Rattle.table.specs.Verdict.{Verdict}
 use Rattle.table.specs.Refusals.{rows, given, accepted}
 use Rattle.term.specs.Term.{is_array}
 use Rattle.term.specs.Bytes.{look}

@@ -5,7 +5,7 @@ use Rattle.basis.specs.Reason.{◌when◌, first}
 use Rattle.basis.specs.Count.{any_below}
 use Rattle.row.specs.Names.{HEADER, place}
 use Rattle.in_bytes.specs.Numbers.{byte}
-use Rattle.table.specs.declared.Verdict.{Verdict}
+use Rattle.table.specs.Verdict.{Verdict}
 use Rattle.table.specs.Refusals.{rows, given, check_table}
 use Rattle.term.specs.Term.{is_array}
 use Rattle.term.specs.Bytes.{look}

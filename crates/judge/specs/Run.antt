@@ -1,7 +1,7 @@
 -- What a fresh run is refused for: 1 to 6, which every call begins with, then 19, then 9 to 15 and 18 (document 01, "What is answered"; document 02, A2 and A8).
 use Rattle.std.specs.Prelude.{ℕ, List, [], ◌∷◌, ◌++◌, length, ltb}
 use Rattle.basis.specs.Reason.{Reason, ◌when◌, first}
-use Rattle.table.specs.declared.Verdict.{Verdict}
+use Rattle.table.specs.Verdict.{Verdict}
 use Rattle.table.specs.Refusals.{head_reasons, given, check_rows, accepted}
 
 -- 1 to 6

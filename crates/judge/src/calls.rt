@@ -8,113 +8,93 @@ ghost use Rattle.judge.specs.Ask.{pair_reasons, array_verdict};
 ghost use Rattle.judge.specs.Judge.{Placed, KeptThere, PairThere};
 ghost use Rattle.term.specs.Term.{is_array};
 ghost use Rattle.term.specs.Bytes.{look};
+ghost use Rattle.table.specs.Fault.{told, verdict_of};
 ghost use Rattle.table.specs.Refusals.{accepted, check_rows};
 
 use crate::kept;
 use row::Row;
-use table::Verdict;
+use table::{Fault, Refusal};
 
 // 1 to 6.
-pub fn room(t: &[u8], buffer: &[u8]) -> u64
-    ensures { result ≡ first (room_reasons t.now buffer.now) }
+pub fn room(t: &[u8], buffer: &[u8]) -> Result<(), Fault>
+    ensures { told result ≡ first (room_reasons t.now buffer.now) }
 {
-    let number = table::head(t);
-    if number != 0 {
-        return number;
-    }
+    table::head(t)?;
     if buffer.len() < t.len() {
-        return 6;
+        return Err(Fault::ResultTooShort);
     }
-    0
+    Ok(())
 }
 
 // the stores that a READ compares at most, where a caller asks for no lower number
 pub const LIMIT: usize = 1024;
 
 // 19.
-fn limited(limit: u64) -> u64
-    ensures { result ≡ first (limit_reasons limit) }
+fn limited(limit: u64) -> Result<(), Fault>
+    ensures { told result ≡ first (limit_reasons limit) }
 {
     if limit > LIMIT as u64 {
-        return 19;
+        return Err(Fault::LimitTooHigh);
     }
-    0
+    Ok(())
 }
 
 // 1 to 6 and 19 of a fresh run.
-fn before_rows(t: &[u8], buffer: &[u8], limit: u64) -> u64
-    ensures { result ≡ first (run_reasons t.now buffer.now limit) }
+fn before_rows(t: &[u8], buffer: &[u8], limit: u64) -> Result<(), Fault>
+    ensures { told result ≡ first (run_reasons t.now buffer.now limit) }
 {
-    let number = room(t, buffer);
-    if number != 0 {
-        return number;
-    }
+    room(t, buffer)?;
     limited(limit)
 }
 
 // A fresh run: 1 to 6 and 19, then 9 to 15 and 18.
-pub fn run(t: &[u8], buffer: &[u8], limit: u64) -> Verdict
-    ensures { result ≡ run_verdict t.now buffer.now limit }
+pub fn run(t: &[u8], buffer: &[u8], limit: u64) -> Result<(), Refusal>
+    ensures { verdict_of result ≡ run_verdict t.now buffer.now limit }
 {
-    let number = before_rows(t, buffer, limit);
-    if number != 0 {
-        return Verdict {
-            number: number,
-            row: 0,
-        };
-    }
+    before_rows(t, buffer, limit)?;
     scan::check_rows(t)
 }
 
 // 1 to 8 and 19 of an edit.
-pub fn edit(t: &[u8], kept: &[u8], r: u64, replacement: &[u8], limit: u64) -> u64
-    ensures { result ≡ first (edit_reasons t.now kept.now r replacement.now limit) }
+pub fn edit(t: &[u8], kept: &[u8], r: u64, replacement: &[u8], limit: u64) -> Result<(), Fault>
+    ensures { told result ≡ first (edit_reasons t.now kept.now r replacement.now limit) }
 {
-    let number = room(t, kept);
-    if number != 0 {
-        return number;
-    }
+    room(t, kept)?;
     let n = table::rows_of(t) as u64;
     if n <= r {
-        return 7;
+        return Err(Fault::RowNumber);
     }
     if replacement.len() != Row::LENGTH {
-        return 8;
+        return Err(Fault::ReplacementLength);
     }
     limited(limit)
 }
 
 // 1 to 7 of a question.
-pub fn pair(t: &[u8], kept: &[u8], x: u64, y: u64) -> u64
-    ensures { result ≡ first (pair_reasons t.now kept.now x y) }
+pub fn pair(t: &[u8], kept: &[u8], x: u64, y: u64) -> Result<(), Fault>
+    ensures { told result ≡ first (pair_reasons t.now kept.now x y) }
 {
-    let number = room(t, kept);
-    if number != 0 {
-        return number;
-    }
+    room(t, kept)?;
     let n = table::rows_of(t) as u64;
     if n <= x {
-        return 7;
+        return Err(Fault::RowNumber);
     }
     if n <= y {
-        return 7;
+        return Err(Fault::RowNumber);
     }
-    0
+    Ok(())
 }
 
 // 9 to 15 and 18 of a table as it stands, then 16 of its kept result.
-pub fn with_kept(t: &[u8], kept: &[u8]) -> Verdict
+pub fn with_kept(t: &[u8], kept: &[u8]) -> Result<(), Refusal>
     requires { KeptThere t.now kept.now }
-    ensures { result ≡ check_rows t.now (kept_verdict t.now (kept_part t.now kept.now) accepted) }
+    ensures { verdict_of result ≡ check_rows t.now (kept_verdict t.now (kept_part t.now kept.now) accepted) }
 {
-    let verdict = scan::check_rows(t);
-    if verdict.number != 0 {
-        return verdict;
-    }
+    scan::check_rows(t)?;
     if kept::wrong(t, kept) {
-        return Verdict { number: 16, row: 0 };
+        return Err(Fault::KeptResult.into());
     }
-    Verdict { number: 0, row: 0 }
+    Ok(())
 }
 
 // Whether row x, which is there, is an array.
@@ -126,25 +106,22 @@ pub fn is_array(t: &[u8], x: usize) -> bool
 }
 
 // 9 to 15 and 18 of a question, then 16, then 14 for a number that names an array row.
-pub fn words(t: &[u8], kept: &[u8], x: usize, y: usize) -> Verdict
+pub fn words(t: &[u8], kept: &[u8], x: usize, y: usize) -> Result<(), Refusal>
     requires { PairThere t.now kept.now x y }
-    ensures { result ≡ check_rows t.now (kept_verdict t.now (kept_part t.now kept.now) (array_verdict t.now x y)) }
+    ensures { verdict_of result ≡ check_rows t.now (kept_verdict t.now (kept_part t.now kept.now) (array_verdict t.now x y)) }
 {
-    let verdict = with_kept(t, kept);
-    if verdict.number != 0 {
-        return verdict;
-    }
+    with_kept(t, kept)?;
     if is_array(t, x) {
-        return Verdict {
-            number: 14,
+        return Err(Refusal {
+            fault: Fault::Sort,
             row: x as u64,
-        };
+        });
     }
     if is_array(t, y) {
-        return Verdict {
-            number: 14,
+        return Err(Refusal {
+            fault: Fault::Sort,
             row: y as u64,
-        };
+        });
     }
-    Verdict { number: 0, row: 0 }
+    Ok(())
 }

@@ -1,3 +1,3 @@
 -- Laws of marks.
 pub mod InWord
-pub mod Marks
+pub mod Marking

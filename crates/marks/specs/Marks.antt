@@ -1,8 +1,7 @@
 -- Marks of rows: a bit for each row, 64 rows a word, the lowest bit first. Sixteen words have a bit for every row that a table can have.
-use Rattle.std.specs.Prelude.{ℕ, zero, suc, ◌+◌, ◌/◌, ◌%◌, ◌^◌, ◌<◌, ◌≡◌, Bool, cond, List, length, get_or, set, eqb}
+use Rattle.std.specs.Prelude.{ℕ, zero, suc, ◌+◌, ◌/◌, ◌%◌, ◌^◌, ◌<◌, ◌≡◌, ◌≢◌, ◌||◌, Bool, cond, List, length, get_or, set, eqb}
 use Rattle.std.specs.Int.Bits.{bit_or}
 use Rattle.std.specs.Int.Count.{ones}
-use Rattle.table.specs.Refusals.{MOST}
 
 -- bit b of a word is 1
 unfoldable pub is_one : ℕ → ℕ → Bool
@@ -30,12 +29,8 @@ pub record Words (marks : List ℕ) : Type 0 where
   pub long : length marks ≡ 16
   pub fit : (i : ℕ) → get_or marks i 0 < 2 ^ 64
 
--- marks, and a row that has one
-pub record HasBit (marks : List ℕ) (x : ℕ) : Type 0 where
-  pub words : Words marks
-  pub below : x < MOST
-
--- the marks with row x marked too where a test passed, in words as before
+-- the marks with row x marked too where a test passed: every other row is marked as before
 pub record Remarked (before : List ℕ) (x : ℕ) (passed : Bool) (after : List ℕ) : Type 0 where
   pub is : after ≡ with_mark before x passed
-  pub words : Words after
+  pub here : marked after x ≡ (marked before x || passed)
+  pub there : (y : ℕ) → y ≢ x → marked after y ≡ marked before y

@@ -10,7 +10,9 @@ use Rattle.term.specs.declared.Reason.{Reason}
 use Rattle.term.specs.declared.Reason.TheVariants.{SamePlace, Offsets, Separate, Undecided}
 use Rattle.term.specs.declared.Spans.{Spans}
 use Rattle.term.specs.Term.{Term}
-use Rattle.term.specs.Base.{Base, nothing, one, sum_of, difference, negative, base, offset}
+use Rattle.term.specs.declared.Base.{Base}
+use Rattle.term.specs.declared.Base.TheVariants.{Nothing, One, Sum, Difference, Negative}
+use Rattle.term.specs.Base.{base, offset}
 use Rattle.term.specs.Walk.{Walk}
 use Rattle.term.specs.Reason.{reason, known_by, index_of, meets, met}
 use Rattle.term.proofs.Reasons.{Grounds, related_reason, reason_grounds}
@@ -47,11 +49,11 @@ Explains M Undecided v w = Unit {0}
 module _ (M : ℕ) (choice : Choice) (f : ℕ → Term) (of : ℕ → Meaning) (model : Model M choice f of) where
   total_below : (d : Base) → total M of d < M
   unfolding total
-  total_below nothing = model.pos
-  total_below (one x) = model.words x
-  total_below (sum_of x y) = plus_below M model.pos _ _
-  total_below (difference x y) = minus_below M model.pos _ _
-  total_below (negative x) = minus_below M model.pos _ _
+  total_below Nothing = model.pos
+  total_below (One x) = model.words x
+  total_below (Sum x y) = plus_below M model.pos _ _
+  total_below (Difference x y) = minus_below M model.pos _ _
+  total_below (Negative x) = minus_below M model.pos _ _
 
   module _ (g : ℕ → Range) (held : Contained of g) where
     explained : (x y : ℕ) (why : Reason) → Grounds f g x y why → Says (known_by why) (of x).value (of y).value

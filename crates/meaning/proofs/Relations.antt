@@ -17,7 +17,7 @@ use Rattle.term.specs.declared.Relation.{Relation}
 use Rattle.term.specs.declared.Relation.TheVariants.{Same, Apart, Unknown}
 use Rattle.term.specs.Relation.{range_by, range_down, range_of, related}
 use Rattle.term.specs.Base.{base, offset, same_base}
-use Rattle.term.proofs.Base.{same_base_lem}
+use Rattle.term.proofs.Bases.{same_base_lem}
 use Rattle.meaning.specs.Meaning.{Choice, Meaning, meaning_by}
 use Rattle.meaning.proofs.Model.{Holds, Model, Contained}
 use Rattle.meaning.proofs.Value.{total, base_val, offset_below, valued, minus_negated}

@@ -6,17 +6,19 @@ use Rattle.word.specs.Word.{plus, minus}
 use Rattle.word.proofs.Words.{differences, same_difference, plus_comm, plus_zero}
 use Rattle.term.specs.Term.{Term, const, var, shift, sum, diff, neg, read, fresh, write}
 use Rattle.term.specs.WellFormed.{Fits}
-use Rattle.term.specs.Base.{Base, nothing, one, sum_of, difference, negative, base_of, offset_of, written, base, offset}
+use Rattle.term.specs.declared.Base.{Base}
+use Rattle.term.specs.declared.Base.TheVariants.{Nothing, One, Sum, Difference, Negative}
+use Rattle.term.specs.Base.{base_of, offset_of, written, base, offset}
 use Rattle.meaning.specs.Meaning.{Choice, Meaning, word_of, meaning_by}
 use Rattle.meaning.proofs.Model.{Holds, Model}
 
 -- the value of a base, where the rows mean `of`
 unfoldable pub total : ℕ → (ℕ → Meaning) → Base → ℕ
-total M of nothing = 0
-total M of (one x) = (of x).value
-total M of (sum_of x y) = plus M (of x).value (of y).value
-total M of (difference x y) = minus M (of x).value (of y).value
-total M of (negative x) = minus M 0 (of x).value
+total M of Nothing = 0
+total M of (One x) = (of x).value
+total M of (Sum x y) = plus M (of x).value (of y).value
+total M of (Difference x y) = minus M (of x).value (of y).value
+total M of (Negative x) = minus M 0 (of x).value
 
 pub valued : {m n : Meaning} → m ≡ n → n.value ≡ m.value
 valued e = ap (λ (m : Meaning). m.value) (sym e)
@@ -48,11 +50,11 @@ module _ (M : ℕ) (choice : Choice) (of : ℕ → Meaning) (pos : 0 < M) where
   -- a row that is written with a base and an offset has their value
   pub written_holds : (x : ℕ) (d : Base) (k : ℕ) → k < M → Holds M choice of x (written d k) (word_of (plus M (total M of d) k))
   unfolding total written meaning_by
-  written_holds x nothing k below = record { fits = below; bounds = tt; means = ap word_of (sym (zero_plus M pos k below)) }
-  written_holds x (one a) k below = record { fits = below; bounds = tt; means = refl }
-  written_holds x (sum_of a b) k below = record { fits = below; bounds = tt; means = refl }
-  written_holds x (difference a b) k below = record { fits = below; bounds = tt; means = refl }
-  written_holds x (negative a) k below = record { fits = below; bounds = tt; means = ap word_of (negative_plus M pos k (of a).value) }
+  written_holds x Nothing k below = record { fits = below; bounds = tt; means = ap word_of (sym (zero_plus M pos k below)) }
+  written_holds x (One a) k below = record { fits = below; bounds = tt; means = refl }
+  written_holds x (Sum a b) k below = record { fits = below; bounds = tt; means = refl }
+  written_holds x (Difference a b) k below = record { fits = below; bounds = tt; means = refl }
+  written_holds x (Negative a) k below = record { fits = below; bounds = tt; means = ap word_of (negative_plus M pos k (of a).value) }
 
 -- the value of a row is that of its base plus its offset
 pub base_val : (M : ℕ) (choice : Choice) (f : ℕ → Term) (of : ℕ → Meaning) → Model M choice f of

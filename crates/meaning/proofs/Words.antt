@@ -10,9 +10,11 @@ use Rattle.basis.proofs.Pick.{pick_case}
 use Rattle.word.specs.Word.{plus, minus}
 use Rattle.word.proofs.Words.{differences, same_difference, plus_below, minus_below, plus_comm, plus_assoc, plus_zero}
 use Rattle.term.specs.Term.{Term}
-use Rattle.term.specs.Base.{Base, nothing, one, sum_of, difference, negative, written, is_nothing, same_base, base, offset, open_to, open_by}
+use Rattle.term.specs.declared.Base.{Base}
+use Rattle.term.specs.declared.Base.TheVariants.{Nothing, One, Sum, Difference, Negative}
+use Rattle.term.specs.Base.{written, is_nothing, same_base, base, offset, open_to, open_by}
 use Rattle.term.specs.Rule.{shift_rule, sum_rule, neg_by, neg_rule, diff_rule}
-use Rattle.term.proofs.Base.{same_base_lem, is_nothing_lem, open_case}
+use Rattle.term.proofs.Bases.{same_base_lem, is_nothing_lem, open_case}
 use Rattle.meaning.specs.Meaning.{Choice, Meaning, word_of}
 use Rattle.meaning.proofs.Model.{Holds, Model}
 use Rattle.meaning.proofs.Value.{negative_plus, total, base_val, written_holds}
@@ -84,14 +86,14 @@ module _ (M : ℕ) (choice : Choice) (f : ℕ → Term) (of : ℕ → Meaning) (
 
   const_val : (a : ℕ) → is_nothing (base f a) ≡ true → (of a).value ≡ plus M 0 (offset f a)
   unfolding total
-  const_val a e = val_of a nothing (is_nothing_lem (base f a) e)
+  const_val a e = val_of a Nothing (is_nothing_lem (base f a) e)
 
   -- what a row opens to has its value
   open_val : (a : ℕ) → (of a).value ≡ plus M (of (open_to f a)).value (open_by f a)
   unfolding total
   open_val a =
       open_case (λ y k. (of a).value ≡ plus M (of y).value k) f a
-      (λ y e. val_of a (one y) e)
+      (λ y e. val_of a (One y) e)
       (sym (plus_zero M pos (of a).value (model.words a)))
 
   sorted_total : (y z : ℕ) → plus M (of (min y z)).value (of (max y z)).value ≡ plus M (of y).value (of z).value
@@ -121,19 +123,19 @@ module _ (M : ℕ) (choice : Choice) (f : ℕ → Term) (of : ℕ → Meaning) (
   neg_holds x a k below = by (base f a) refl
     where
       by : (d : Base) → base f a ≡ d → Worth x (neg_by M f a k (offset f a) d) (minus M k (of a).value)
-      by nothing e =
-          worth x _ (rw (val_of a nothing e) (neg_nothing M pos (offset f a) k))
-          (written_holds M choice of pos x nothing _ (minus_below M pos _ _))
-      by (one y) e =
-          worth x _ (rw (val_of a (one y) e) (neg_one M pos (of y).value (offset f a) k))
-          (written_holds M choice of pos x (negative y) _ (minus_below M pos _ _))
-      by (negative y) e =
-          worth x _ (rw (val_of a (negative y) e) (neg_negative M pos (of y).value (offset f a) k)) (shift_holds x y _)
-      by (difference y z) e =
-          worth x _ (rw (val_of a (difference y z) e) (neg_difference M pos (of y).value (of z).value (offset f a) k))
-          (written_holds M choice of pos x (difference z y) _ (minus_below M pos _ _))
-      by (sum_of y z) e =
-          worth x _ (sym (negative_plus M pos k (of a).value)) (written_holds M choice of pos x (negative a) k below)
+      by Nothing e =
+          worth x _ (rw (val_of a Nothing e) (neg_nothing M pos (offset f a) k))
+          (written_holds M choice of pos x Nothing _ (minus_below M pos _ _))
+      by (One y) e =
+          worth x _ (rw (val_of a (One y) e) (neg_one M pos (of y).value (offset f a) k))
+          (written_holds M choice of pos x (Negative y) _ (minus_below M pos _ _))
+      by (Negative y) e =
+          worth x _ (rw (val_of a (Negative y) e) (neg_negative M pos (of y).value (offset f a) k)) (shift_holds x y _)
+      by (Difference y z) e =
+          worth x _ (rw (val_of a (Difference y z) e) (neg_difference M pos (of y).value (of z).value (offset f a) k))
+          (written_holds M choice of pos x (Difference z y) _ (minus_below M pos _ _))
+      by (Sum y z) e =
+          worth x _ (sym (negative_plus M pos k (of a).value)) (written_holds M choice of pos x (Negative a) k below)
 
   pub diff_holds : (x a b k : ℕ) → Worth x (diff_rule M f a b k) (plus M (minus M (of a).value (of b).value) k)
   unfolding diff_rule written total
@@ -143,7 +145,7 @@ module _ (M : ℕ) (choice : Choice) (f : ℕ → Term) (of : ℕ → Meaning) (
       worth x _
       (rw (val_of a (base f b) (same_base_lem (base f a) (base f b) e), val b)
       (diff_same M pos (total M of (base f b)) (offset f a) (offset f b) k))
-      (written_holds M choice of pos x nothing _ (plus_below M pos _ _)))
+      (written_holds M choice of pos x Nothing _ (plus_below M pos _ _)))
       (λ _.
       pick_case (λ s. Worth x s v) (is_nothing (base f b))
       (λ e. worth x _ (rw (const_val b e) (diff_right M pos (of a).value (offset f b) k)) (shift_holds x a _))
@@ -154,7 +156,7 @@ module _ (M : ℕ) (choice : Choice) (f : ℕ → Term) (of : ℕ → Meaning) (
       worth x _
       (rw (open_val a, open_val b)
       (diff_open M pos (of (open_to f a)).value (of (open_to f b)).value (open_by f a) (open_by f b) k))
-      (written_holds M choice of pos x (difference (open_to f a) (open_to f b)) _ (plus_below M pos _ _)))))
+      (written_holds M choice of pos x (Difference (open_to f a) (open_to f b)) _ (plus_below M pos _ _)))))
     where
       v : ℕ
       v = plus M (minus M (of a).value (of b).value) k

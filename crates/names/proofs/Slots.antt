@@ -1,14 +1,14 @@
 -- The ways out of what a row states, of the search, and of the slots.
-use Prim.Native.Nat.{ℕ, suc, ◌+◌, ◌-◌, ◌*◌, ◌%◌, ◌≤◌, ◌<◌}
+use Prim.Native.Nat.{ℕ, suc, ◌+◌, ◌-◌, ◌%◌, ◌≤◌, ◌<◌}
 use native.Mathlib.Nat.{eq-or-lt_of_le}
 use native.Mathlib.Omega.{arith}
 use native.Mathlib.Decide.{dec_lt, ℕ_discrete}
 use mathlib.Core.Path.{◌≡◌, refl, sym, ap, subst, ◌∙◌}
 use mathlib.Core.Logic.{dite, ⊎_elim}
 use mathlib.Core.List.{List}
-use lib.ListN.{length, get_or, set, length-set, replicate, length-replicate, get_or-replicate, get_or-eq_default}
+use lib.ListN.{length, get_or, set, replicate, length-replicate, get_or-replicate, get_or-eq_default}
 use lib.Seq.{get_or-set_same, get_or-set_other}
-use lib.Bits.{bit_and, and_mask, and_le_r}
+use lib.Bits.{bit_and, and_mask}
 use lib.Dec.{eqb}
 use mir.Syntax.{w16, w64}
 use mir.Val.{Fits}
@@ -86,20 +86,10 @@ zeros n i =
 pub no_slots : (t : List ℕ) → Slots t (replicate 256 0) 0
 no_slots t =
     record {
-      long = length-replicate {A = ℕ} 256 0;
       low = λ s. rw (zeros 256 s) (let none : 0 ≤ 0 = omega arith in none);
       first = λ s y e. absurd (let none : 0 ≡ suc y = sym (zeros 256 s) ∙ e in omega arith);
       none = λ y l. absurd (omega arith);
     }
-
-pub slot_there : (name : ℕ) → bit_and name 255 < 256
-slot_there name = omega (arith, and_le_r name 255)
-
-pub slot_scaled : (name : ℕ) → Fits w64 (bit_and name 255 * 2)
-slot_scaled name = record { fits = omega (arith, and_le_r name 255) }
-
-pub kept_fits : (t slots : List ℕ) (r s : ℕ) → CanFind t slots r → Fits w64 (get_or slots s 0)
-kept_fits t slots r s can = record { fits = omega (arith, can.few, can.valid.low s) }
 
 -- by what the slot has
 module _ (t : List ℕ) (name r kept : ℕ) (slot : Slotted t name r kept) where
@@ -137,7 +127,6 @@ module _ (t slots : List ℕ) (r : ℕ) (can : CanFind t slots r) {y more : ℕ}
 pub nameless_slots : (t slots : List ℕ) (r : ℕ) → Slots t slots r → name_at t r ≡ 0 → Slots t slots (suc r)
 nameless_slots t slots r valid none =
     record {
-      long = valid.long;
       low = λ s. let low : get_or slots s 0 ≤ r = valid.low s in omega arith;
       first = valid.first;
       none = λ y l.
@@ -171,7 +160,7 @@ module _ (t slots : List ℕ) (r : ℕ) (can : CanFind t slots r) {name : ℕ} (
               (ap (λ (k : ℕ). get_or slots (k % 256) 0) (e ∙ read.is) ∙ ap (λ (s : ℕ). get_or slots s 0) (sym slot_is) ∙ free);
         }
 
-    module _ {first : ℕ} (is : first ≡ first_of (name_at t) r) where
+    module _ (long : length slots ≡ 256) {first : ℕ} (is : first ≡ first_of (name_at t) r) where
       first_low : first ≤ r
       first_low = low_first t r is
 
@@ -179,7 +168,7 @@ module _ (t slots : List ℕ) (r : ℕ) (can : CanFind t slots r) {name : ℕ} (
       after = set slots (name_at t r % 256) (first + 1)
 
       there : name_at t r % 256 < length slots
-      there = omega (arith, can.valid.long)
+      there = omega (arith, long)
 
       here : get_or after (name_at t r % 256) 0 ≡ first + 1
       here = get_or-set_same slots (name_at t r % 256) (first + 1) 0 there
@@ -190,7 +179,6 @@ module _ (t slots : List ℕ) (r : ℕ) (can : CanFind t slots r) {name : ℕ} (
       kept_first : Slots t after (suc r)
       kept_first =
           record {
-            long = length-set slots (name_at t r % 256) (first + 1) ∙ can.valid.long;
             low = λ s.
                 dite (ℕ_discrete s (name_at t r % 256))
                 (λ (e : s ≡ name_at t r % 256). rw (e, here) (let l : first ≤ r = first_low in let up : first + 1 ≤ suc r = omega arith in up))

@@ -6,7 +6,6 @@ use Rattle.names.specs.First.{name_at, first_of}
 -- the slots when the rows below n of the table t were asked for: a slot has 0 where none of them states a name of it, else one more than the number of a row
 -- that is the first of its name
 pub record Slots (t slots : List ℕ) (n : ℕ) : Type 0 where
-  pub long : length slots ≡ 256
   pub low : (s : ℕ) → get_or slots s 0 ≤ n
   pub first : (s y : ℕ) → get_or slots s 0 ≡ suc y → first_of (name_at t) y ≡ y
   pub none : (y : ℕ) → y < n → (name_at t y ≡ 0 → ⊥) → get_or slots (name_at t y % 256) 0 ≡ 0 → ⊥

@@ -1,24 +1,25 @@
 // Names of variables: which name a row states, and the first row that states it.
 #![tactic(auto)]
 
-ghost use Rattle.std.specs.Prelude.{◌≡◌, ◌+◌, ◌≤◌, length};
+ghost use Rattle.std.specs.Prelude.{◌≡◌, ◌+◌, ◌≤◌, List, ℕ, length};
 ghost use Rattle.row.specs.Names.{LENGTH, place};
 ghost use Rattle.in_bytes.specs.Numbers.{Read};
 ghost use Rattle.names.specs.First.{name_from, name_at, first_named, first_of};
-ghost use Rattle.names.specs.Slots.{Slotted, CanFind, Found};
+ghost use Rattle.names.specs.Slots.{Slots, Slotted, CanFind, Found};
 
-use in_bytes::two;
-use row::Row;
+use in_bytes::number;
+use row::{Kind, Row};
+use std::marker::Model;
 
 // The name that the row whose bytes begin at `at` states; 0 is none.
 pub fn stated(t: &[u8], at: usize) -> usize
     requires { at + LENGTH ≤ length t.now }
     ensures { Read (name_from t.now at) 65536 result }
 {
-    if t[at + Row::KIND] != Row::VAR {
+    if t[at + Row::KIND] != Kind::Var.byte() {
         return 0;
     }
-    two(t, at + Row::A)
+    number::<2>(t, at + Row::A) as usize
 }
 
 // The name that row r of a table states; 0 is none.
@@ -34,12 +35,10 @@ pub fn search(t: &[u8], name: usize, n: usize) -> usize
     requires { place n ≤ length t.now }
     ensures { result ≡ first_named (name_at t.now) name n }
 {
-    let mut y = 0;
-    while y < n {
+    for y in 0..n {
         if stated_at(t, y) == name {
             return y;
         }
-        y += 1;
     }
     n
 }
@@ -58,18 +57,40 @@ fn by_slot(t: &[u8], name: usize, r: usize, kept: usize) -> usize
     search(t, name, r)
 }
 
-// The first row of the name of row r; a row without a name is its own first. Rows are asked for one by one from row 0 on, with slots that begin as zeros: the
-// rows above are searched only where another name has the slot.
-pub fn first_of(t: &[u8], slots: &mut [u16; 256], r: usize) -> usize
-    requires { CanFind t.now slots.old r }
-    ensures { Found t.now r result slots.new }
-{
-    let name = stated_at(t, r);
-    if name == 0 {
-        return r;
+// The first rows of the names met so far, as rows are asked for one by one from row 0 on: the rows above are searched only where another name has the slot.
+#[derive(Drop)]
+pub struct Firsts {
+    slots: [u16; 256],
+}
+
+impl Model for Firsts {
+    ghost use Rattle.std.specs.Prelude.{List, ℕ};
+
+    ghost Value = { List ℕ };
+
+    ghost view = { λ f. f.slots };
+}
+
+impl Firsts {
+    // No row was asked for.
+    pub fn new() -> Self
+        ensures { (t : List ℕ) → Slots t result 0 }
+    {
+        Firsts { slots: [0; 256] }
     }
-    let slot = name & 255;
-    let first = by_slot(t, name, r, slots[slot] as usize);
-    slots[slot] = (first + 1) as u16;
-    first
+
+    // The first row of the name of row r; a row without a name is its own first.
+    pub fn first_of(&mut self, t: &[u8], r: usize) -> usize
+        requires { CanFind t.now self.old r }
+        ensures { Found t.now r result self.new }
+    {
+        let name = stated_at(t, r);
+        if name == 0 {
+            return r;
+        }
+        let slot = name & 255;
+        let first = by_slot(t, name, r, self.slots[slot] as usize);
+        self.slots[slot] = (first + 1) as u16;
+        first
+    }
 }

@@ -1,17 +1,19 @@
 -- Marking the rows that ranges are made from.
-use Prim.Native.Nat.{ℕ, ◌+◌, ◌-◌, ◌*◌, ◌/◌, ◌≤◌, ◌<◌}
+use Prim.Native.Nat.{ℕ, ◌+◌, ◌-◌, ◌*◌, ◌≤◌, ◌<◌}
 use native.Mathlib.Omega.{arith}
 use native.Mathlib.Decide.{ℕ_discrete, dec_lt}
-use mathlib.Core.Path.{◌≡◌, refl, ap, sym, ◌∙◌}
-use mathlib.Core.Bool.{Bool, true, false, not, true≢false}
+use mathlib.Core.Path.{◌≡◌, refl, sym, ◌∙◌}
+use mathlib.Core.Bool.{Bool, true, false, true≢false}
 use mathlib.Core.Logic.{dite, ◌⊎◌, ⊎_elim, inl, inr}
 use mathlib.Core.List.{List}
-use lib.ListN.{replicate}
-use borrow.Author.Tests.{not-true, not-false}
 use Rattle.basis.proofs.Pick.{or_true_right}
 use Rattle.row.specs.declared.Row.{Row}
-use Rattle.row.specs.Names.{SHIFT, SUM, DIFF, NEG, place}
+use Rattle.row.specs.declared.kind.Kind.{Kind}
+use Rattle.row.specs.declared.kind.Kind.TheVariants.{Const, Var, Shift, Sum, Diff, Neg, Read, Fresh, Write}
+use Rattle.row.specs.Kinds.{byte_of, StatesNone}
+use Rattle.row.specs.Names.{SHIFT, SUM, DIFF, NEG, WRITE, place}
 use Rattle.row.specs.Bytes.{Decoded, row}
+use Rattle.row.proofs.States.{states_shift, states_sum, states_diff, states_neg}
 use Rattle.table.specs.Refusals.{MOST}
 use Rattle.term.specs.Term.{term_of}
 use Rattle.term.specs.Relation.{Rests}
@@ -20,9 +22,9 @@ use Rattle.term.specs.Bytes.{look}
 use Rattle.term.proofs.Rows.{number_case}
 use Rattle.term.proofs.Names.{rests_widen}
 use Rattle.rules.proofs.Turns.{decoded_term}
-use Rattle.marks.specs.Marks.{marked, none_beside, Words, HasBit, Remarked}
-use Rattle.marks.proofs.Marks.{mark_here, mark_there, none_beside_lem, none_words, none_marked}
-use Rattle.needed.specs.Needed.{Word, TwoWords, Needing, Needed, CanGo, Gone}
+use Rattle.marks.specs.Marks.{marked, none_beside, Remarked}
+use Rattle.marks.proofs.Marking.{none_beside_lem}
+use Rattle.needed.specs.Needed.{Word, TwoWords, Needing, Needed}
 
 -- ---- the rows that the range of a row is made from, by its kind
 
@@ -36,6 +38,18 @@ two_low kind two = ⊎_elim (λ (e : kind ≡ SUM). omega arith) (λ (e : kind �
 
 two_high : (kind : ℕ) → HasTwo kind → kind < NEG
 two_high kind two = ⊎_elim (λ (e : kind ≡ SUM). omega arith) (λ (e : kind ≡ DIFF). omega arith) two
+
+-- and no other kind is among them
+none_between : (kind : Kind) → (kind ≡ Shift → ⊥) → (kind ≡ Neg → ⊥) → (kind ≡ Sum → ⊥) → (kind ≡ Diff → ⊥) → SHIFT ≤ byte_of kind → byte_of kind ≤ NEG → ⊥
+none_between Const s n p d low high = absurd (omega arith)
+none_between Var s n p d low high = absurd (omega arith)
+none_between Shift s n p d low high = s refl
+none_between Sum s n p d low high = p refl
+none_between Diff s n p d low high = d refl
+none_between Neg s n p d low high = n refl
+none_between Read s n p d low high = absurd (omega arith)
+none_between Fresh s n p d low high = absurd (omega arith)
+none_between Write s n p d low high = absurd (omega arith)
 
 rests_kind : (U : ℕ → Type 0) (x : Row) → (SHIFT ≤ x.kind → x.kind ≤ NEG → U x.a) → (HasTwo x.kind → U x.b) → Rests U (term_of x)
 unfolding term_of
@@ -82,21 +96,20 @@ module _ (W : Bool → ℕ → Type 0) (x : Row) where
 
 -- more words are marked, all of them below r
 record Grown (R : List ℕ) (r : ℕ) (marks after : List ℕ) : Type 0 where
-  words : Words after
   rows : (x : ℕ) → x < MOST → marked after x ≡ true → Word R x
   stay : (x : ℕ) → marked marks x ≡ true → marked after x ≡ true
   above : (x : ℕ) → r ≤ x → marked after x ≡ marked marks x
 
-grown_none : (R marks : List ℕ) (r : ℕ) → Words marks → ((x : ℕ) → x < MOST → marked marks x ≡ true → Word R x) → Grown R r marks marks
-grown_none R marks r words rows = record { words = words; rows = rows; stay = λ x m. m; above = λ x l. refl }
+grown_none : (R marks : List ℕ) (r : ℕ) → ((x : ℕ) → x < MOST → marked marks x ≡ true → Word R x) → Grown R r marks marks
+grown_none R marks r rows = record { rows = rows; stay = λ x m. m; above = λ x l. refl }
 
 module _ (R : List ℕ) (r : ℕ) (marks : List ℕ) {now after : List ℕ} {a : ℕ} (so : Grown R r marks now) (below : a < r) (word : Word R a)
     (set : Remarked now a true after) where
   here : marked after a ≡ true
-  here = ap (λ (m : List ℕ). marked m a) set.is ∙ mark_here now so.words a true word.there.few ∙ or_true_right (marked now a) true refl
+  here = set.here ∙ or_true_right (marked now a) true refl
 
   there : (x : ℕ) → (x ≡ a → ⊥) → marked after x ≡ marked now x
-  there x other = ap (λ (m : List ℕ). marked m x) set.is ∙ mark_there now so.words a true word.there.few x other
+  there x other = set.there x other
 
   stays : (x : ℕ) → marked now x ≡ true → marked after x ≡ true
   stays x m = dite (ℕ_discrete x a) (λ (e : x ≡ a). rw e here) (λ (n : x ≡ a → ⊥). there x n ∙ m)
@@ -104,7 +117,6 @@ module _ (R : List ℕ) (r : ℕ) (marks : List ℕ) {now after : List ℕ} {a :
   grown_mark : Grown R r marks after
   grown_mark =
       record {
-        words = set.words;
         rows = λ x l m. dite (ℕ_discrete x a) (λ (e : x ≡ a). rw e word) (λ (n : x ≡ a → ⊥). so.rows x l (sym (there x n) ∙ m));
         stay = λ x m. stays x (so.stay x m);
         above = λ x l. there x (λ e. absurd (omega arith)) ∙ so.above x l;
@@ -118,7 +130,6 @@ module _ (R marks : List ℕ) (r : ℕ) (needs : Needing R (r + 1) marks) (own :
       record {
         needs = record {
           names = needs.names;
-          words = grown.words;
           rows = grown.rows;
           closed = λ x l few m.
               dite (ℕ_discrete x r)
@@ -142,25 +153,27 @@ module _ (R marks : List ℕ) (r : ℕ) (needs : Needing R (r + 1) marks) (own :
         }
 
     begun : Grown R r marks marks
-    begun = grown_none R marks r needs.words needs.rows
+    begun = grown_none R marks r needs.rows
 
     outside : (SHIFT ≤ x.kind → x.kind ≤ NEG → ⊥) → Needed R marks r marks
     outside none =
         settled begun
         (rw (← decoded_term R r x decoded) (rests_kind _ x (λ l h. absurd (none l h)) (λ two. absurd (none (omega (arith, two_low x.kind two)) (omega (arith, two_high x.kind two))))))
 
-    pub below_low : x.kind < SHIFT → Needed R marks r marks
-    below_low l = outside (λ low high. absurd (omega arith))
+    pub below_no_kind : StatesNone x.kind → Needed R marks r marks
+    below_no_kind none =
+        outside (λ low high. ⊎_elim (λ (e : x.kind ≡ 0). absurd (omega (arith, e))) (λ (l : WRITE < x.kind). absurd (omega arith)) none)
 
-    pub below_high : NEG < x.kind → Needed R marks r marks
-    below_high l = outside (λ low high. absurd (omega arith))
+    pub below_none : {kind : Kind} → x.kind ≡ byte_of kind → (kind ≡ Shift → ⊥) → (kind ≡ Neg → ⊥) → (kind ≡ Sum → ⊥) → (kind ≡ Diff → ⊥) → Needed R marks r marks
+    below_none {kind} states no_shift no_neg no_sum no_diff =
+        outside (λ low high. none_between kind no_shift no_neg no_sum no_diff (rw states at low) (rw states at high))
 
     module _ (low : SHIFT ≤ x.kind) (high : x.kind ≤ NEG) where
       left : Below (look R) r false x.a
       left = first_named_lem (Below (look R) r) x names low high
 
-      pub below_asks : HasBit marks x.a
-      below_asks = record { words = needs.words; below = (word left).there.few }
+      asks_left : x.a < MOST
+      asks_left = (word left).there.few
 
       module _ {now : List ℕ} (set : Remarked marks x.a true now) where
         first_marked : marked now x.a ≡ true
@@ -172,71 +185,58 @@ module _ (R marks : List ℕ) (r : ℕ) (needs : Needing R (r + 1) marks) (own :
         one : (HasTwo x.kind → ⊥) → Needed R marks r now
         one single = settled grown (rw (← decoded_term R r x decoded) (rests_kind _ x (λ l h. first_marked) (λ two. absurd (single two))))
 
-        pub below_shift : x.kind ≡ SHIFT → Needed R marks r now
-        below_shift e = one (λ two. absurd (omega (arith, e, two_low x.kind two)))
+        two_marked : (two : HasTwo x.kind) → {after : List ℕ} → Remarked now x.b true after → Needed R marks r after
+        two_marked two {after} again =
+            let right : Below (look R) r false x.b = second-named (Below (look R) r) x names two in
+            let both : Grown R r marks after = grown_mark R r marks grown right.below (word right) again in
+            settled both
+            (rw (← decoded_term R r x decoded)
+            (rests_kind _ x
+            (λ l h. stays R r marks grown right.below (word right) again x.a first_marked)
+            (λ t. here R r marks grown right.below (word right) again)))
 
-        pub below_neg : x.kind ≡ NEG → Needed R marks r now
-        below_neg e = one (λ two. absurd (omega (arith, e, two_high x.kind two)))
+    module _ {kind : Kind} (states : x.kind ≡ byte_of kind) where
+      module _ (is : (kind ≡ Shift) ⊎ (kind ≡ Neg)) where
+        ends : (x.kind ≡ SHIFT) ⊎ (x.kind ≡ NEG)
+        ends = ⊎_elim (λ (e : kind ≡ Shift). inl (states_shift states e)) (λ (e : kind ≡ Neg). inr (states_neg states e)) is
 
-        module _ (no_shift : x.kind ≡ SHIFT → ⊥) (no-neg : x.kind ≡ NEG → ⊥) where
-          two_rows : HasTwo x.kind
-          two_rows =
-              dite (ℕ_discrete x.kind SUM) (λ (e : x.kind ≡ SUM). inl e) (λ (n : x.kind ≡ SUM → ⊥). inr (omega arith))
+        low : SHIFT ≤ x.kind
+        low = ⊎_elim (λ (e : x.kind ≡ SHIFT). omega (arith, e)) (λ (e : x.kind ≡ NEG). omega (arith, e)) ends
 
-          right : Below (look R) r false x.b
-          right = second-named (Below (look R) r) x names two_rows
+        high : x.kind ≤ NEG
+        high = ⊎_elim (λ (e : x.kind ≡ SHIFT). omega (arith, e)) (λ (e : x.kind ≡ NEG). omega (arith, e)) ends
 
-          pub below_asks_second : HasBit now x.b
-          below_asks_second = record { words = grown.words; below = (word right).there.few }
+        single : HasTwo x.kind → ⊥
+        single two =
+            ⊎_elim
+            (λ (e : x.kind ≡ SHIFT). absurd (omega (arith, e, two_low x.kind two)))
+            (λ (e : x.kind ≡ NEG). absurd (omega (arith, e, two_high x.kind two)))
+            ends
 
-          pub below_two : {after : List ℕ} → Remarked now x.b true after → Needed R marks r after
-          below_two {after} again =
-              let both : Grown R r marks after = grown_mark R r marks grown right.below (word right) again in
-              settled both
-              (rw (← decoded_term R r x decoded)
-              (rests_kind _ x
-              (λ l h. stays R r marks grown right.below (word right) again x.a first_marked)
-              (λ two. here R r marks grown right.below (word right) again)))
+        pub below_asks : x.a < MOST
+        below_asks = asks_left low high
 
--- ---- one turn
+        pub below_one : {now : List ℕ} → Remarked marks x.a true now → Needed R marks r now
+        below_one set = one low high set single
 
-module _ (R marks : List ℕ) (r : ℕ) (can : CanGo R r marks) where
-  -- from row s on, where no row from s up to r is marked
-  passed : (s : ℕ) → s < r → ((x : ℕ) → s ≤ x → x < r → marked marks x ≡ false) → Gone R marks r s marks
-  passed s down none =
-      record {
-        down = down;
-        needed = record {
-          needs = record {
-            names = can.needs.names;
-            words = can.needs.words;
-            rows = can.needs.rows;
-            closed = λ x l few m.
-                dite (dec_lt x r)
-                (λ (h : x < r). absurd (true≢false (sym m ∙ none x l h)))
-                (λ (h : x < r → ⊥). can.needs.closed x (omega arith) few m);
-          };
-          stay = λ x m. m;
-        };
-      }
+      module _ (is : (kind ≡ Sum) ⊎ (kind ≡ Diff)) where
+        two : HasTwo x.kind
+        two = ⊎_elim (λ (e : kind ≡ Sum). inl (states_sum states e)) (λ (e : kind ≡ Diff). inr (states_diff states e)) is
 
-  pub go_mark : r - 1 < MOST
-  go_mark = omega (arith, can.some, can.few)
+        from : SHIFT ≤ x.kind
+        from = omega (arith, two_low x.kind two)
 
-  pub go_word : {b : Bool} → b ≡ none_beside marks (r - 1) → b ≡ true → Gone R marks r (64 * ((r - 1) / 64)) marks
-  go_word told e =
-      passed _ (omega (arith, can.some)) (λ x l h. none_beside_lem marks (r - 1) x (sym told ∙ e) (omega (arith, can.some)))
+        to : x.kind ≤ NEG
+        to = omega (arith, two_high x.kind two)
 
-  pub go_unmarked : {b : Bool} → b ≡ marked marks (r - 1) → not b ≡ true → Gone R marks r (r - 1) marks
-  go_unmarked {b} told e =
-      passed _ (omega (arith, can.some)) (λ x l h. let same : x ≡ r - 1 = omega arith in rw same (sym told ∙ not-true b e))
+        pub below_asks_first : x.a < MOST
+        below_asks_first = asks_left from to
 
-  module _ {b : Bool} (told : b ≡ marked marks (r - 1)) (e : not b ≡ false) where
-    pub go_needs : Needing R (r - 1 + 1) marks
-    go_needs = let same : r - 1 + 1 ≡ r = omega (arith, can.some) in rw same can.needs
+        pub below_asks_second : x.b < MOST
+        below_asks_second = (word (second-named (Below (look R) r) x names two)).there.few
 
-    pub go_row : Word R (r - 1)
-    go_row = can.needs.rows (r - 1) go_mark (sym told ∙ not-false b e)
+        pub below_two : {now after : List ℕ} → Remarked marks x.a true now → Remarked now x.b true after → Needed R marks r after
+        below_two set again = two_marked from to set two again
 
 -- ---- all rows
 
@@ -245,56 +245,49 @@ pub record Down (R marks : List ℕ) (r : ℕ) (now : List ℕ) : Type 0 where
   pub so : Needed R marks r now
   pub few : r ≤ MOST
 
-module _ {R marks : List ℕ} where
-  pub down_begun : Needing R MOST marks → Down R marks MOST marks
-  down_begun needs = record { so = record { needs = needs; stay = λ x m. m }; few = omega arith }
-
-  module _ {now : List ℕ} {r : ℕ} (at : Down R marks r now) where
-    pub down_asks : 0 < r → CanGo R r now
-    down_asks some = record { needs = at.so.needs; some = some; few = at.few }
-
-    pub down_goes : {after : List ℕ} {s : ℕ} → Gone R now r s after → Down R marks s after
-    down_goes gone =
-        record {
-          so = record { needs = gone.needed.needs; stay = λ x m. gone.needed.stay x (at.so.stay x m) };
-          few = omega (arith, gone.down, at.few);
-        }
-
-    pub down_done : r ≤ 0 → Needed R marks 0 now
-    down_done h = let e : r ≡ 0 = omega arith in rw e at at.so
+-- down a word, where none of its rows is marked
+pub down_word : {R marks now : List ℕ} (word : ℕ) → 0 < word → Down R marks (64 * word) now → none_beside now (64 * (word - 1)) ≡ true → Down R marks (64 * (word - 1)) now
+down_word {R} {marks} {now} word some at none =
+    record {
+      so = record {
+        needs = record {
+          names = at.so.needs.names;
+          rows = at.so.needs.rows;
+          closed = λ x l few m.
+              dite (dec_lt x (64 * word))
+              (λ (h : x < 64 * word). absurd (true≢false (sym m ∙ none_beside_lem now (64 * (word - 1)) x none (omega arith))))
+              (λ (h : x < 64 * word → ⊥). at.so.needs.closed x (omega arith) few m);
+        };
+        stay = at.so.stay;
+      };
+      few = omega (arith, at.few);
+    }
 
 -- ---- two rows
 
-module _ (R : List ℕ) (w x y : ℕ) (two : TwoWords R w x y) where
-  pub two_bit : HasBit (replicate 16 0) x
-  two_bit = record { words = none_words; below = two.first_row.there.few }
+module _ (R : List ℕ) (w x y : ℕ) (two : TwoWords R w x y) {no : List ℕ} (none_marked : (z : ℕ) → z < MOST → marked no z ≡ false) where
+  none_yet : Grown R MOST no no
+  none_yet = grown_none R no MOST (λ z l m. absurd (true≢false (sym m ∙ none_marked z l)))
 
-  none_yet : Grown R MOST (replicate 16 0) (replicate 16 0)
-  none_yet = grown_none R (replicate 16 0) MOST none_words (λ z l m. absurd (true≢false (sym m ∙ none_marked z l)))
-
-  module _ {one : List ℕ} (set : Remarked (replicate 16 0) x true one) where
-    first_grown : Grown R MOST (replicate 16 0) one
-    first_grown = grown_mark R MOST (replicate 16 0) none_yet two.first_row.there.few two.first_row set
-
-    pub two_bit_second : HasBit one y
-    two_bit_second = record { words = set.words; below = two.second_row.there.few }
+  module _ {one : List ℕ} (set : Remarked no x true one) where
+    first_grown : Grown R MOST no one
+    first_grown = grown_mark R MOST no none_yet two.first_row.there.few two.first_row set
 
     module _ {both : List ℕ} (again : Remarked one y true both) where
       pub two_needs : Needing R MOST both
       two_needs =
-          let grown : Grown R MOST (replicate 16 0) both =
-          grown_mark R MOST (replicate 16 0) first_grown two.second_row.there.few two.second_row again in
+          let grown : Grown R MOST no both =
+          grown_mark R MOST no first_grown two.second_row.there.few two.second_row again in
           record {
             names = two.formed.names;
-            words = grown.words;
             rows = grown.rows;
             closed = λ z l few m. absurd (omega arith);
           }
 
       pub second_there : marked both y ≡ true
-      second_there = here R MOST (replicate 16 0) first_grown two.second_row.there.few two.second_row again
+      second_there = here R MOST no first_grown two.second_row.there.few two.second_row again
 
       pub first_there : marked both x ≡ true
       first_there =
-          stays R MOST (replicate 16 0) first_grown two.second_row.there.few two.second_row again x
-          (here R MOST (replicate 16 0) none_yet two.first_row.there.few two.first_row set)
+          stays R MOST no first_grown two.second_row.there.few two.second_row again x
+          (here R MOST no none_yet two.first_row.there.few two.first_row set)

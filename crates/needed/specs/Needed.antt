@@ -1,5 +1,6 @@
 -- The rows that two ranges are made from, and their ranges. R are the bytes of a result, w is its width, S the store of ranges.
 use Rattle.std.specs.Prelude.{ℕ, ◌^◌, ◌≤◌, ◌<◌, ◌≡◌, true, false, List, length}
+use Rattle.range.specs.declared.Range.{Range}
 use Rattle.range.specs.Range.{Proper}
 use Rattle.range.specs.Store.{kept}
 use Rattle.table.specs.Refusals.{MOST}
@@ -8,7 +9,7 @@ use Rattle.term.specs.Relation.{Rests, range_of}
 use Rattle.term.specs.WellFormed.{Names, Below, WellFormed}
 use Rattle.term.specs.Bytes.{look}
 use Rattle.walks.specs.Ready.{Reached}
-use Rattle.marks.specs.Marks.{marked, Words}
+use Rattle.marks.specs.Marks.{marked}
 
 -- row x is there, and is a word
 pub record Word (R : List ℕ) (x : ℕ) : Type 0 where
@@ -17,7 +18,6 @@ pub record Word (R : List ℕ) (x : ℕ) : Type 0 where
 
 -- two word rows of a result
 pub record TwoWords (R : List ℕ) (w x y : ℕ) : Type 0 where
-  pub width : w ≤ 64
   pub formed : WellFormed (2 ^ w) (look R)
   pub first_row : Word R x
   pub second_row : Word R y
@@ -27,7 +27,6 @@ pub record TwoWords (R : List ℕ) (w x y : ℕ) : Type 0 where
 -- words alone are marked, and with each marked row from r on the rows that its range is made from
 pub record Needing (R : List ℕ) (r : ℕ) (marks : List ℕ) : Type 0 where
   pub names : (x : ℕ) → Names (Below (look R) x) (look R x)
-  pub words : Words marks
   pub rows : (x : ℕ) → x < MOST → marked marks x ≡ true → Word R x
   pub closed : (x : ℕ) → r ≤ x → x < MOST → marked marks x ≡ true → Rests (λ y. marked marks y ≡ true) (look R x)
 
@@ -36,43 +35,21 @@ pub record Needed (R marks : List ℕ) (r : ℕ) (after : List ℕ) : Type 0 whe
   pub needs : Needing R r after
   pub stay : (x : ℕ) → marked marks x ≡ true → marked after x ≡ true
 
--- of one turn, which is at row r
-pub record CanGo (R : List ℕ) (r : ℕ) (marks : List ℕ) : Type 0 where
-  pub needs : Needing R r marks
-  pub some : 0 < r
-  pub few : r ≤ MOST
-
--- it goes on at row s
-pub record Gone (R marks : List ℕ) (r s : ℕ) (after : List ℕ) : Type 0 where
-  pub down : s < r
-  pub needed : Needed R marks s after
-
 -- ---- ranges, from the first row up
 
 -- the store is whole and has ranges of words alone
-pub record Blank (w : ℕ) (S : List ℕ) : Type 0 where
-  pub whole : length S ≡ 2048
+pub record Blank (w : ℕ) (S : List Range) : Type 0 where
+  pub whole : length S ≡ 1024
   pub proper : (x : ℕ) → Proper (2 ^ w) (kept S x)
 
 -- with each marked row the rows that its range is made from are marked, and the store has the ranges of the marked rows below r
-pub record Keeping (R marks : List ℕ) (w r : ℕ) (S : List ℕ) : Type 0 where
-  pub width : w ≤ 64
+pub record Keeping (R marks : List ℕ) (w r : ℕ) (S : List Range) : Type 0 where
   pub formed : WellFormed (2 ^ w) (look R)
   pub needs : Needing R 0 marks
   pub store : Blank w S
   pub ranges : (x : ℕ) → x < r → x < MOST → marked marks x ≡ true → kept S x ≡ range_of (2 ^ w) (look R) x
 
--- of one turn, at row r
-pub record CanKeep (R marks : List ℕ) (w r : ℕ) (S : List ℕ) : Type 0 where
-  pub keeping : Keeping R marks w r S
-  pub few : r < MOST
-
--- it goes on at row s
-pub record Kept (R marks : List ℕ) (w r s : ℕ) (S : List ℕ) : Type 0 where
-  pub up : r < s
-  pub keeping : Keeping R marks w s S
-
 -- the store has the ranges of rows x and y
-pub record TwoKept (R : List ℕ) (w x y : ℕ) (S : List ℕ) : Type 0 where
+pub record TwoKept (R : List ℕ) (w x y : ℕ) (S : List Range) : Type 0 where
   pub first_range : kept S x ≡ range_of (2 ^ w) (look R) x
   pub second_range : kept S y ≡ range_of (2 ^ w) (look R) y

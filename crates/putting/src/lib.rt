@@ -8,7 +8,6 @@ ghost use Rattle.row.specs.Names;
 ghost use Rattle.row.specs.Names.{place, LENGTH};
 ghost use Rattle.row.specs.Bytes.{head_of, put_row};
 
-use in_bytes::{put_eight, put_four, put_two};
 use row::Row;
 
 // Makes x, recorded at instruction `source`, row r of a table.
@@ -38,9 +37,9 @@ fn put_references(t: &mut [u8], at: usize, a: usize, b: usize, c: usize)
     requires { at + LENGTH ≤ length t.old }
     ensures { t.new ≡ sets t.old (at + Names.A) (bytes 2 a ++ bytes 2 b ++ bytes 2 c) }
 {
-    put_two(t, at + Row::A, a);
-    put_two(t, at + Row::B, b);
-    put_two(t, at + Row::C, c);
+    in_bytes::put::<2>(t, at + Row::A, a as u64);
+    in_bytes::put::<2>(t, at + Row::B, b as u64);
+    in_bytes::put::<2>(t, at + Row::C, c as u64);
 }
 
 // Writes the two values and the source of a row that begins at `at`.
@@ -48,7 +47,7 @@ fn put_values(t: &mut [u8], at: usize, k: u64, h: u64, source: u64)
     requires { at + LENGTH ≤ length t.old }
     ensures { t.new ≡ sets t.old (at + Names.K) (bytes 8 k ++ bytes 8 h ++ bytes 4 source) }
 {
-    put_eight(t, at + Row::K, k);
-    put_eight(t, at + Row::H, h);
-    put_four(t, at + Row::SOURCE, source);
+    in_bytes::put::<8>(t, at + Row::K, k);
+    in_bytes::put::<8>(t, at + Row::H, h);
+    in_bytes::put::<4>(t, at + Row::SOURCE, source);
 }

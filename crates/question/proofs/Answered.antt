@@ -3,7 +3,7 @@ use Prim.Native.Nat.{ℕ, ◌+◌, ◌^◌, ◌≤◌, ◌<◌}
 use native.Mathlib.Omega.{arith}
 use native.Mathlib.Nat.{le_refl}
 use lib.Pow.{pow_pos}
-use mathlib.Core.Path.{◌≡◌, refl, ap, sym, ◌∙◌}
+use mathlib.Core.Path.{◌≡◌, refl, ap, subst, sym, ◌∙◌}
 use mathlib.Core.Bool.{Bool, true, false}
 use mathlib.Core.List.{List}
 use lib.ListN.{length, take, replicate, length-replicate}
@@ -12,13 +12,17 @@ use lib.Dec.{eqb}
 use borrow.Author.Tests.{ne_eqb}
 use Rattle.basis.specs.Reason.{first}
 use Rattle.basis.proofs.Pick.{pick_true}
-use Rattle.names.proofs.Slots.{zeros}
+use Rattle.range.specs.declared.Range.{Range}
+use Rattle.range.specs.Range.{point, Proper}
 use Rattle.range.specs.Store.{kept}
+use Rattle.range.proofs.Kept.{kept_new}
 use Rattle.range.proofs.Spans.{span_proper}
 use Rattle.row.specs.Names.{HEADER, LENGTH, place}
 use Rattle.row.proofs.Places.{header_below, room_in}
 use Rattle.in_bytes.specs.Numbers.{Read}
-use Rattle.table.specs.declared.Verdict.{Verdict}
+use Rattle.std.specs.Prelude.{Result, Ok, Err, IsErrAnd}
+use Rattle.table.specs.declared.Refusal.{Refusal}
+use Rattle.table.specs.Verdict.{Verdict}
 use Rattle.table.specs.Refusals.{width, rows, MOST, accepted, refuse, check_rows}
 use Rattle.table.proofs.Faulty.{given_passes, given_refuses}
 use Rattle.table.proofs.Heads.{good_head}
@@ -31,7 +35,7 @@ use Rattle.term.specs.Reason.{reason}
 use Rattle.term.specs.Bytes.{look}
 use Rattle.term.proofs.Reasons.{reason_agree}
 use Rattle.walks.specs.declared.value.Value.{Value}
-use Rattle.walks.specs.Value.{value_at, agree}
+use Rattle.walks.specs.Value.{value_at}
 use Rattle.walks.specs.Ready.{Reached}
 use Rattle.walks.proofs.Relations.{agree_bases}
 use Rattle.judge.specs.Verdict.{is_accepted}
@@ -44,21 +48,26 @@ use Rattle.simplify.specs.declared.Answer.{Answer}
 use Rattle.simplify.specs.Answer.{modulus, answer}
 use Rattle.needed.specs.Needed.{Word, TwoWords, Blank, TwoKept}
 use Rattle.question.specs.declared.Comparison.{Comparison}
-use Rattle.question.specs.Ask.{ask_verdict, kept_rows, ask_reason, compared, ask_answer}
+use Rattle.question.specs.Ask.{ask_verdict, kept_rows, ask_reason, compared, comparison_of, ask_answer}
 
 pub compared_is : (number row : ℕ) (why : Reason) {a : Answer} → a ≡ answer number row 0 0 0 → ◌≡◌ {A = Comparison} (record { answer = a; why = why }) (compared number row why)
 unfolding compared
 compared_is number row why e = λ i. record { answer = e i; why = why }
 
+-- what a `?` hands on
+pub comparison_on : (r : Result Reason Refusal) (refusal : Refusal) {c : Comparison} → IsErrAnd r (λ e. e ≡ refusal) → comparison_of (Err refusal) ≡ c → comparison_of r ≡ c
+comparison_on (Ok _) refusal h e = absurd h
+comparison_on (Err x) refusal h e = ap (λ (f : Refusal). comparison_of (Err f)) h ∙ e
+
 -- ---- why, of two word rows
 
--- a store of zeros: each range is the word 0
-pub blank : (w : ℕ) → Blank w (replicate 2048 0)
-unfolding kept
+-- a new store: each range is the word 0
+pub blank : (w : ℕ) → Blank w (replicate 1024 (point 0))
+unfolding point
 blank w =
     record {
-      whole = length-replicate {A = ℕ} 2048 0;
-      proper = λ x. rw (zeros 2048, zeros 2048) (span_proper (2 ^ w) 0 0 (le_refl 0) (pow_pos w));
+      whole = length-replicate {A = Range} 1024 (point 0);
+      proper = λ x. subst (Proper (2 ^ w)) (sym (kept_new 1024 x)) (span_proper (2 ^ w) 0 0 (le_refl 0) (pow_pos w));
     }
 
 module _ (R : List ℕ) (w x y : ℕ) (two : TwoWords R w x y) where
@@ -78,15 +87,15 @@ module _ (R : List ℕ) (w x y : ℕ) (two : TwoWords R w x y) where
   told = reason (look R) (range_of (2 ^ w) (look R)) x y
 
   -- on a shared base the ranges play no part
-  pub why_shared : (S : List ℕ) {u v : Value} {b : Bool} {r : Reason} → u ≡ value_at (look R) x → v ≡ value_at (look R) y → b ≡ agree u v → b ≡ true →
+  pub why_shared : (S : List Range) {u v : Value} {b : Bool} {r : Reason} → u ≡ value_at (look R) x → v ≡ value_at (look R) y → b ≡ same_base u.base v.base → b ≡ true →
       r ≡ reason (look R) (kept S) x y → r ≡ told
   unfolding reason
-  why_shared S eu ev e t is =
+  why_shared S {u} {v} {b} eu ev e t is =
       let shared : same_base (base (look R) x) (base (look R) y) ≡ true =
-      sym (agree_bases (look R) x y) ∙ sym (rw (eu, ev) at e) ∙ t in
+      sym (agree_bases (look R) x y u v b eu ev e) ∙ t in
       is ∙ pick_true _ _ _ shared ∙ sym (pick_true _ _ _ shared)
 
-  pub why_kept : {S : List ℕ} → {r : Reason} → TwoKept R w x y S → r ≡ reason (look R) (kept S) x y → r ≡ told
+  pub why_kept : {S : List Range} → {r : Reason} → TwoKept R w x y S → r ≡ reason (look R) (kept S) x y → r ≡ told
   why_kept {S} done is =
       is ∙ reason_agree (look R) (look R) (kept S) (range_of (2 ^ w) (look R)) x y refl refl done.first_range done.second_range
 
@@ -136,6 +145,9 @@ module _ (t kept : List ℕ) (x y : ℕ) where
           pub ask_header : HEADER ≤ length t
           ask_header = rw size (header_below (rows t))
 
+          pub ask_width : width t ≤ 64
+          ask_width = (good_head t ask_there.there.head).width_high
+
           part_is : take (length t) kept ≡ kept_part t kept
           unfolding kept_part
           part_is = ap (λ (n : ℕ). take n kept) size
@@ -154,7 +166,6 @@ module _ (t kept : List ℕ) (x y : ℕ) where
           ask_two {w} is =
               rw (part_is, is.is)
               (record {
-                width = (good_head t ask_there.there.head).width_high;
                 formed = right_formed t (kept_part t kept) granted.right;
                 first_row = word ask_there.first_row granted.first_word;
                 second_row = word ask_there.second_row granted.second_word;

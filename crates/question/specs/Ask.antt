@@ -1,7 +1,9 @@
 -- A question about two rows of a kept result: document 01, "Comparison"; document 02, A6.
-use Rattle.std.specs.Prelude.{ℕ, cond, List}
+use Rattle.std.specs.Prelude.{ℕ, cond, List, Result, Ok, Err}
 use Rattle.basis.specs.Reason.{first}
-use Rattle.table.specs.declared.Verdict.{Verdict}
+use Rattle.table.specs.Verdict.{Verdict}
+use Rattle.table.specs.declared.Refusal.{Refusal}
+use Rattle.table.specs.Fault.{number_of}
 use Rattle.table.specs.Refusals.{given, check_rows}
 use Rattle.term.specs.declared.Relation.{Relation}
 use Rattle.term.specs.declared.Relation.TheVariants.{Unknown}
@@ -38,6 +40,11 @@ ask_reason t kept x y =
 -- a comparison that makes no run: removed, touched and compared are 0
 unfoldable pub compared : ℕ → ℕ → Reason → Comparison
 compared number row why = record { answer = answer number row 0 0 0; why = why }
+
+-- the comparison by what is found: a reason, or a refusal
+abbrev pub comparison_of : Result Reason Refusal → Comparison
+comparison_of (Ok why) = compared 0 0 why
+comparison_of (Err refusal) = compared (number_of refusal.fault) refusal.row Undecided
 
 -- the promise is that this is answered. Both buffers are only read
 unfoldable pub ask_answer : List ℕ → List ℕ → ℕ → ℕ → Comparison

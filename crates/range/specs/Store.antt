@@ -1,13 +1,12 @@
--- The ranges of many rows in one flat list of numbers.
-use Rattle.std.specs.Prelude.{ℕ, ◌+◌, ◌*◌, List, [], ◌∷◌, slice_index}
-use Rattle.std.proofs.lemmas.List.Edits.{sets}
+-- The ranges of many rows.
+use Rattle.std.specs.Prelude.{ℕ, List, get_or, set}
 use Rattle.range.specs.declared.Range.{Range}
-use Rattle.range.specs.Range.{span}
+use Rattle.range.specs.Range.{point}
 
 -- the range kept for row x
-unfoldable pub kept : List ℕ → ℕ → Range
-kept store x = span (slice_index store (2 * x)) (slice_index store (2 * x + 1))
+unfoldable pub kept : List Range → ℕ → Range
+kept store x = get_or store x (point 0)
 
 -- the store with a for row x
-unfoldable pub keep : List ℕ → ℕ → Range → List ℕ
-keep store x a = sets store (2 * x) (a.lo ∷ a.hi ∷ [])
+unfoldable pub keep : List Range → ℕ → Range → List Range
+keep store x a = set store x a

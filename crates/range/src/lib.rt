@@ -1,14 +1,15 @@
-// A range of words: all from lo to hi; or, where hi is below lo, the two pieces from 0 to hi and from lo to the top of the word. By value; the flat store keeps one
+// A range of words: all from lo to hi; or, where hi is below lo, the two pieces from 0 to hi and from lo to the top of the word. By value; the store keeps one
 // for each row.
 #![tactic(auto)]
 
-ghost use Rattle.std.specs.Prelude.{◌≡◌, ◌-◌, ◌^◌, ◌≤◌};
+ghost use Rattle.std.specs.Prelude.{◌≡◌, ◌-◌, ◌^◌};
 ghost use Rattle.word.specs.Word.{minus};
 ghost use Rattle.range.specs.Range.{span, point, full, is_two, sum, negation, has, disjoint, Proper};
 
 mod store;
 
-pub use store::{LENGTH, load, save};
+pub use store::Store;
+use word::Width;
 
 #[derive(Clone, Copy)]
 pub struct Range {
@@ -32,14 +33,10 @@ impl Range {
     }
 
     // Every word of w bits.
-    pub fn of_all(w: u32) -> Range
-        requires { w ≤ 64 }
+    pub fn of_all(w: Width) -> Range
         ensures { result ≡ full (2 ^ w) }
     {
-        Range {
-            lo: 0,
-            hi: word::top(w),
-        }
+        Range { lo: 0, hi: w.top() }
     }
 
     // Whether it has two pieces.
@@ -50,15 +47,14 @@ impl Range {
     }
 
     // a + b: from the sum of the lower ends to that of the upper ones. Where that is all the way round, every word.
-    pub fn sum(w: u32, a: Range, b: Range) -> Range
-        requires width { w ≤ 64 }
+    pub fn sum(w: Width, a: Range, b: Range) -> Range
         requires a_proper { Proper (2 ^ w) a }
         requires b_proper { Proper (2 ^ w) b }
         ensures { result ≡ sum (2 ^ w) a b }
     {
-        let top = word::top(w);
-        let x = size(w, top, a);
-        let y = size(w, top, b);
+        let top = w.top();
+        let x = size(w, a);
+        let y = size(w, b);
         if x >= top - y {
             return Range { lo: 0, hi: top };
         }
@@ -69,13 +65,12 @@ impl Range {
     }
 
     // - a: from the negation of the upper end to that of the lower one. Every word stays every word.
-    pub fn negation(w: u32, a: Range) -> Range
-        requires width { w ≤ 64 }
+    pub fn negation(w: Width, a: Range) -> Range
         requires a_proper { Proper (2 ^ w) a }
         ensures { result ≡ negation (2 ^ w) a }
     {
-        let top = word::top(w);
-        if size(w, top, a) >= top {
+        let top = w.top();
+        if size(w, a) >= top {
             return Range { lo: 0, hi: top };
         }
         Range {
@@ -96,12 +91,10 @@ impl Range {
 }
 
 // How far it is from the lower end up to the upper one, over the top where there are two pieces: one less than the numbers of a.
-fn size(w: u32, top: u64, a: Range) -> u64
-    requires width { w ≤ 64 }
-    requires top_known { top ≡ 2 ^ w - 1 }
+fn size(w: Width, a: Range) -> u64
     ensures { result ≡ minus (2 ^ w) a.hi a.lo }
 {
-    std::num::wrapping_sub_u64(a.hi, a.lo) & top
+    std::num::wrapping_sub_u64(a.hi, a.lo) & w.top()
 }
 
 // Whether x is no further up from lo than hi is. That is counted modulo 2^64 at every width: a range of two pieces then goes on over numbers that are no words,

@@ -1,28 +1,49 @@
-// The ranges of the rows of a table in one flat array, two numbers a row.
-ghost use Rattle.std.specs.Prelude.{◌≡◌, ◌<◌};
+// The ranges of the rows of a table.
+ghost use Rattle.std.specs.Prelude.{◌≡◌, ◌<◌, replicate};
+ghost use Rattle.range.specs.Range.{point};
 ghost use Rattle.range.specs.Store.{kept, keep};
 
 use crate::Range;
+use std::marker::Model;
 
-// Numbers in the store of 1,024 rows.
-pub const LENGTH: usize = 2048;
-
-// The range kept for row x.
-pub fn load(store: &[u64; LENGTH], x: usize) -> Range
-    requires { x < 1024 }
-    ensures { result ≡ kept store.now x }
-{
-    Range {
-        lo: store[2 * x],
-        hi: store[2 * x + 1],
-    }
+// A range for each of 1,024 rows.
+#[derive(Drop)]
+pub struct Store {
+    ranges: [Range; 1024],
 }
 
-// Keeps a for row x.
-pub fn save(store: &mut [u64; LENGTH], x: usize, a: Range)
-    requires { x < 1024 }
-    ensures { store.new ≡ keep store.old x a }
-{
-    store[2 * x] = a.lo;
-    store[2 * x + 1] = a.hi;
+impl Model for Store {
+    ghost use Rattle.std.specs.Prelude.{List};
+    ghost use Rattle.range.specs.declared.Range.{Range};
+
+    ghost Value = { List Range };
+
+    ghost view = { λ s. s.ranges };
+}
+
+impl Store {
+    // [0, 0] for every row.
+    pub fn new() -> Store
+        ensures { result ≡ replicate 1024 (point 0) }
+    {
+        Store {
+            ranges: [Range { lo: 0, hi: 0 }; 1024],
+        }
+    }
+
+    // The range kept for row x.
+    pub fn load(&self, x: usize) -> Range
+        requires { x < 1024 }
+        ensures { result ≡ kept self.now x }
+    {
+        self.ranges[x]
+    }
+
+    // Keeps a for row r.
+    pub fn save(&mut self, r: usize, a: Range)
+        requires { r < 1024 }
+        ensures { self.new ≡ keep self.old r a }
+    {
+        self.ranges[r] = a;
+    }
 }

@@ -1,5 +1,6 @@
 -- What the loop leaves is what the public definitions say: the fresh result where every row is marked, the edited rows where the touched rows are.
 use Prim.Native.Nat.{ℕ, ◌^◌, ◌<◌}
+use Rattle.range.specs.declared.Range.{Range}
 use mathlib.Core.Path.{◌≡◌, refl, ap, ◌∙◌}
 use mathlib.Core.Bool.{Bool, true, false, cond}
 use mathlib.Core.List.{List}
@@ -26,7 +27,7 @@ pub removed_same : (t f f' : ℕ → Term) (n : ℕ) → ((x : ℕ) → x < n �
 unfolding removed_rows
 removed_same t f f' n same = count_same _ _ n (λ x l. rw (same x l))
 
-module _ (T R S marks : List ℕ) (w limit n : ℕ) (can : CanRenew T R S marks w limit n) (touched : ℕ → Bool) (kept : ℕ → Term) (below : KeptBelow touched kept)
+module _ (T R : List ℕ) (S : List Range) (marks : List ℕ) (w limit n : ℕ) (can : CanRenew T R S marks w limit n) (touched : ℕ → Bool) (kept : ℕ → Term) (below : KeptBelow touched kept)
     (marks_are : (x : ℕ) → x < n → marked marks x ≡ touched x) (kept_is : (x : ℕ) → x < n → touched x ≡ false → look R x ≡ kept x) where
   -- the rows
   pub outcome_is : (x : ℕ) → x < n → outcome T R (marked marks) w limit n x ≡ renewed (2 ^ w) limit touched (look T) kept x

@@ -1,5 +1,5 @@
 -- The loop over rows: after r rounds the first r rows are the outcome's, and so are the ranges of the words among them.
-use Prim.Native.Nat.{ℕ, suc, ◌+◌, ◌*◌, ◌^◌, ◌≤◌, ◌<◌}
+use Prim.Native.Nat.{ℕ, suc, ◌+◌, ◌^◌, ◌≤◌, ◌<◌}
 use native.Mathlib.Nat.{le_refl, lt_trans, lt-suc_self}
 use native.Mathlib.Numerals.{add-one}
 use native.Mathlib.Omega.{arith}
@@ -15,6 +15,7 @@ use borrow.Author.Tests.{lt-ltb, ltb-true}
 use Rattle.basis.specs.Count.{count_where, total}
 use Rattle.basis.proofs.Pick.{pick_case, test_case, pick_alike}
 use Rattle.basis.proofs.Counts.{count_next, total_next}
+use Rattle.range.specs.declared.Range.{Range}
 use Rattle.range.specs.Store.{kept}
 use Rattle.range.proofs.Kept.{keep_same, keep_other}
 use Rattle.row.specs.Names.{LENGTH, place}
@@ -45,7 +46,7 @@ use Rattle.marks.specs.Marks.{marked}
 use Rattle.renew.specs.Renew.{standing, outcome, CanRenew, Renewed}
 
 -- R and S are the result and the store after r rounds, which began with R₀
-pub record Renewing (T R₀ marks : List ℕ) (w limit n r : ℕ) (R S : List ℕ) (removed compared : ℕ) : Type 0 where
+pub record Renewing (T R₀ marks : List ℕ) (w limit n r : ℕ) (R : List ℕ) (S : List Range) (removed compared : ℕ) : Type 0 where
   pub some : r ≤ n
   pub result : R ≡ put_rows (marked marks) (outcome T R₀ (marked marks) w limit n) (source_at T) r R₀
   pub rows : (x : ℕ) → x < r → look R x ≡ outcome T R₀ (marked marks) w limit n x
@@ -62,7 +63,7 @@ pub look_above : (touched : ℕ → Bool) (f : ℕ → Term) (source : ℕ → �
 unfolding look
 look_above touched f source n buffer x h = ap term_of (put_rows_above touched f source n buffer x h)
 
-module _ (T R₀ S₀ marks : List ℕ) (w limit n : ℕ) (can : CanRenew T R₀ S₀ marks w limit n) where
+module _ (T R₀ : List ℕ) (S₀ : List Range) (marks : List ℕ) (w limit n : ℕ) (can : CanRenew T R₀ S₀ marks w limit n) where
   pub table_below : NamesBelow (look T)
   table_below = formed_below (2 ^ w) (look T) can.formed
 
@@ -102,7 +103,7 @@ module _ (T R₀ S₀ marks : List ℕ) (w limit n : ℕ) (can : CanRenew T R₀
       ap is_array (out_made x e) ∙ (simplified_stands (2 ^ w) (pow_pos w) limit (look T) out x (read_formed.fits x)).1 ∙ seen_sort (look T) x)
       (λ (e : marked marks x ≡ false). ap is_array (out_kept x l e) ∙ can.kept_sort x l e)
 
-  module _ {r : ℕ} {R S : List ℕ} {removed compared : ℕ} (at : Renewing T R₀ marks w limit n r R S removed compared) (l : r < n) where
+  module _ {r : ℕ} {R : List ℕ} {S : List Range} {removed compared : ℕ} (at : Renewing T R₀ marks w limit n r R S removed compared) (l : r < n) where
     -- the row that stands at r is the one that stood there at the beginning
     stood : look R r ≡ look R₀ r
     stood = ap (λ (t : List ℕ). look t r) at.result ∙ look_above (marked marks) out (source_at T) r R₀ r (le_refl r)
@@ -182,8 +183,8 @@ module _ (T R₀ S₀ marks : List ℕ) (w limit n : ℕ) (can : CanRenew T R₀
           first_is = first_is ∙ sym (first_row_is T r);
         }
 
-    module _ (R' S' : List ℕ) {number : ℕ} (turn : Written T R R' S S' w limit r (marked marks r) number) where
-      store_room : 2 * r + 1 < length S
+    module _ (R' : List ℕ) (S' : List Range) {number : ℕ} (turn : Written T R R' S S' w limit r (marked marks r) number) where
+      store_room : r < length S
       store_room = omega (arith, can.few, at.ranged.whole)
 
       -- the row that now stands at r
@@ -224,14 +225,14 @@ module _ (T R₀ S₀ marks : List ℕ) (w limit n : ℕ) (can : CanRenew T R₀
       -- and so has it, where it is a word
       range_now : is_array (look T r) ≡ false → kept S' r ≡ range_of (2 ^ w) out r
       range_now word =
-          ap (λ (s : List ℕ). kept s r) turn.store ∙ keep_same S r _ store_room ∙ ap (entry (2 ^ w) (kept S)) made ∙
+          ap (λ (s : List Range). kept s r) turn.store ∙ keep_same S r _ store_room ∙ ap (entry (2 ^ w) (kept S)) made ∙
           entry_range (2 ^ w) (kept S) (out r) (out_sort r l ∙ word) ∙ range_by_local (2 ^ w) (kept S) (range_of (2 ^ w) out) (out r) words ∙
           sym (range_eq (2 ^ w) out out_below r)
 
       ranges' : (x : ℕ) → x < suc r → is_array (look T x) ≡ false → kept S' x ≡ range_of (2 ^ w) out x
       ranges' x h word =
           dite (dec_lt x r)
-          (λ (k : x < r). ap (λ (s : List ℕ). kept s x) turn.store ∙ keep_other S r _ x (omega arith) ∙ at.ranges x k word)
+          (λ (k : x < r). ap (λ (s : List Range). kept s x) turn.store ∙ keep_other S r _ x (omega arith) ∙ at.ranges x k word)
           (λ (k : x < r → ⊥). let e : x ≡ r = omega arith in rw e (range_now (rw e at word)))
 
       -- the stores compared in the turn are those that the outcome's walk compares
@@ -257,7 +258,7 @@ module _ (T R₀ S₀ marks : List ℕ) (w limit n : ℕ) (can : CanRenew T R₀
             summed = ap₂ (λ (k m : ℕ). k + m) at.summed number_is ∙ sym (total_next _ r);
           }
 
-pub begun : (T R S marks : List ℕ) (w limit n : ℕ) → CanRenew T R S marks w limit n → Renewing T R marks w limit n 0 R S 0 0
+pub begun : (T R : List ℕ) (S : List Range) (marks : List ℕ) (w limit n : ℕ) → CanRenew T R S marks w limit n → Renewing T R marks w limit n 0 R S 0 0
 unfolding put_rows removed_rows count_where compared_rows total
 begun T R S marks w limit n can =
     record {
@@ -273,12 +274,12 @@ begun T R S marks w limit n can =
       summed = refl;
     }
 
-pub finished : {T R₀ marks : List ℕ} {w limit n r : ℕ} {R S : List ℕ} {removed compared : ℕ} → Renewing T R₀ marks w limit n r R S removed compared → n ≤ r →
+pub finished : {T R₀ marks : List ℕ} {w limit n r : ℕ} {R : List ℕ} {S : List Range} {removed compared : ℕ} → Renewing T R₀ marks w limit n r R S removed compared → n ≤ r →
     Renewed T R₀ marks w limit n R S (record { removed = removed; compared = compared })
 finished {T} {R₀} {marks} {w} {limit} {n} {r} {R} {S} {removed} {compared} at h =
     let e : r ≡ n = omega (arith, at.some) in
     let done : Renewing T R₀ marks w limit n n R S removed compared = rw e at at in
     record { result = done.result; rows = done.rows; ranges = done.ranges; removed = done.counted; compared = done.summed }
 
-pub same_size : {T R₀ marks : List ℕ} {w limit n r : ℕ} {R S : List ℕ} {removed compared : ℕ} → Renewing T R₀ marks w limit n r R S removed compared → length R ≡ length R₀
+pub same_size : {T R₀ marks : List ℕ} {w limit n r : ℕ} {R : List ℕ} {S : List Range} {removed compared : ℕ} → Renewing T R₀ marks w limit n r R S removed compared → length R ≡ length R₀
 same_size {T} {R₀} {marks} {w} {limit} {n} {r} at = ap length at.result ∙ length_put_rows (marked marks) (outcome T R₀ (marked marks) w limit n) (source_at T) r R₀

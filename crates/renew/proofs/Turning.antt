@@ -1,12 +1,13 @@
 -- The ways out of one turn of the loop.
 use Prim.Native.Nat.{ℕ, ◌+◌, ◌*◌, ◌^◌, ◌≤◌, ◌<◌}
+use Rattle.range.specs.declared.Range.{Range}
 use native.Mathlib.Nat.{mul-le-mul}
 use native.Mathlib.Omega.{arith}
 use mathlib.Core.Path.{◌≡◌, ap, sym, ◌∙◌}
 use mathlib.Core.Bool.{Bool, true, false, cond, not, ◌&&◌}
 use mathlib.Core.List.{List}
 use lib.Dec.{eqb}
-use lib.ListN.{length, replicate}
+use lib.ListN.{length}
 use mir.Syntax.{w64}
 use mir.Val.{Fits}
 use Rattle.basis.specs.Count.{count_where}
@@ -15,7 +16,6 @@ use native.Mathlib.Numerals.{add-one}
 use Rattle.row.specs.Names.{READ}
 use Rattle.row.proofs.Places.{room_below}
 use Rattle.names.specs.Slots.{Slots, CanFind, Found}
-use Rattle.names.proofs.Slots.{no_slots}
 use Rattle.row.specs.Bytes.{row_at}
 use Rattle.term.specs.Term.{is_read}
 use Rattle.term.specs.Result.{removed_rows}
@@ -46,11 +46,11 @@ at_most false = omega arith
 
 -- ---- a turn
 
-module _ (T R S marks : List ℕ) (w r first : ℕ) (can : CanTurn T R S marks w r first) where
+module _ (T R : List ℕ) (S : List Range) (marks : List ℕ) (w r first : ℕ) (can : CanTurn T R S marks w r first) where
   pub turn_asks : {b : Bool} → b ≡ marked marks r → CanWrite T R S w r first b
   turn_asks e = rw e can.can
 
-  pub turn_done : {b : Bool} → b ≡ marked marks r → {R' S' : List ℕ} {limit number : ℕ} → Written T R R' S S' w limit r b number →
+  pub turn_done : {b : Bool} → b ≡ marked marks r → {R' : List ℕ} {S' : List Range} {limit number : ℕ} → Written T R R' S S' w limit r b number →
       {c : Bool} {one : ℕ} → c ≡ (is_read (look T r) && not (is_read (look R' r))) → one ≡ cond c 1 0 →
       Turned T R R' S S' marks w limit r (record { removed = one; compared = number })
   turn_done mark done e f = record { written = rw mark at done; removed = f ∙ ap (λ (d : Bool). cond d 1 0) e }
@@ -58,15 +58,16 @@ module _ (T R S marks : List ℕ) (w r first : ℕ) (can : CanTurn T R S marks w
 -- ---- the loop
 
 -- the rounds so far, and the slots of the names met
-pub record Rounds (T R₀ marks : List ℕ) (w limit n r : ℕ) (R S slots : List ℕ) (removed compared : ℕ) : Type 0 where
+pub record Rounds (T R₀ marks : List ℕ) (w limit n r : ℕ) (R : List ℕ) (S : List Range) (slots : List ℕ) (removed compared : ℕ) : Type 0 where
   pub at : Renewing T R₀ marks w limit n r R S removed compared
   pub valid : Slots T slots r
 
-pub rounds_begun : (T R S marks : List ℕ) (w limit n : ℕ) → CanRenew T R S marks w limit n → Rounds T R marks w limit n 0 R S (replicate 256 0) 0 0
-rounds_begun T R S marks w limit n can = record { at = begun T R S marks w limit n can; valid = no_slots T }
+pub rounds_begun : (T R : List ℕ) (S : List Range) (marks : List ℕ) (w limit n : ℕ) → CanRenew T R S marks w limit n → {slots : List ℕ} → ((t : List ℕ) → Slots t slots 0) →
+    Rounds T R marks w limit n 0 R S slots 0 0
+rounds_begun T R S marks w limit n can valid = record { at = begun T R S marks w limit n can; valid = valid T }
 
-module _ (T R₀ S₀ marks : List ℕ) (w limit n : ℕ) (can : CanRenew T R₀ S₀ marks w limit n)
-    {r : ℕ} {R S slots : List ℕ} {removed compared : ℕ} (rounds : Rounds T R₀ marks w limit n r R S slots removed compared) (l : r < n) where
+module _ (T R₀ : List ℕ) (S₀ : List Range) (marks : List ℕ) (w limit n : ℕ) (can : CanRenew T R₀ S₀ marks w limit n)
+    {r : ℕ} {R : List ℕ} {S : List Range} {slots : List ℕ} {removed compared : ℕ} (rounds : Rounds T R₀ marks w limit n r R S slots removed compared) (l : r < n) where
   pub loop_finds : CanFind T slots r
   loop_finds =
       let few : n ≤ 1024 = can.few in
@@ -76,7 +77,7 @@ module _ (T R₀ S₀ marks : List ℕ) (w limit n : ℕ) (can : CanRenew T R₀
     pub loop_asks : CanTurn T R S marks w r first
     loop_asks = record { can = can_write T R₀ S₀ marks w limit n can rounds.at l found.is }
 
-    module _ {R' S' : List ℕ} {counts : Counts} (done : Turned T R R' S S' marks w limit r counts) where
+    module _ {R' : List ℕ} {S' : List Range} {counts : Counts} (done : Turned T R R' S S' marks w limit r counts) where
       pub removed_fits : Fits w64 (removed + counts.removed)
       unfolding removed_rows
       removed_fits =
@@ -106,7 +107,7 @@ module _ (T R₀ S₀ marks : List ℕ) (w limit n : ℕ) (can : CanRenew T R₀
           let all : limit * count_where tests (r + 1) ≤ 1024 * 1024 = mul-le-mul {m₂ = 1024} can.limited (omega arith) in
           record { fits = omega arith }
 
-module _ {T R₀ marks : List ℕ} {w limit n r : ℕ} {R S slots : List ℕ} {removed compared : ℕ} (rounds : Rounds T R₀ marks w limit n r R S slots removed compared) where
+module _ {T R₀ marks : List ℕ} {w limit n r : ℕ} {R : List ℕ} {S : List Range} {slots : List ℕ} {removed compared : ℕ} (rounds : Rounds T R₀ marks w limit n r R S slots removed compared) where
   pub loop_same_size : length R ≡ length R₀
   loop_same_size = same_size rounds.at
 

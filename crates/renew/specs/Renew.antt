@@ -1,6 +1,7 @@
 -- The loop over rows that run and edit share: what it asks, and what it leaves. T are the bytes of the table, R those of the result, n the
 -- row count; a read compares at most `limit` stores.
 use Rattle.std.specs.Prelude.{ℕ, ◌^◌, ◌≤◌, ◌<◌, ◌≡◌, Bool, false, cond, not, ◌&&◌, List, length, ltb}
+use Rattle.range.specs.declared.Range.{Range}
 use Rattle.range.specs.Store.{kept}
 use Rattle.row.specs.Names.{place}
 use Rattle.row.specs.Bytes.{source_at}
@@ -26,18 +27,18 @@ unfoldable pub outcome : List ℕ → List ℕ → (ℕ → Bool) → ℕ → �
 outcome T R touched w limit n = renewed (2 ^ w) limit touched (look T) (standing R n)
 
 -- one turn: row r is touched where it is marked, and removed counts it where it was a READ and is none any more; `first` is the first row of its name
-pub record CanTurn (T R S marks : List ℕ) (w r first : ℕ) : Type 0 where
+pub record CanTurn (T R : List ℕ) (S : List Range) (marks : List ℕ) (w r first : ℕ) : Type 0 where
   pub can : CanWrite T R S w r first (marked marks r)
 
-pub record Turned (T R R' S S' marks : List ℕ) (w limit r : ℕ) (counts : Counts) : Type 0 where
+pub record Turned (T R R' : List ℕ) (S S' : List Range) (marks : List ℕ) (w limit r : ℕ) (counts : Counts) : Type 0 where
   pub written : Written T R R' S S' w limit r (marked marks r) counts.compared
   pub removed : counts.removed ≡ cond (is_read (look T r) && not (is_read (look R' r))) 1 0
 
-pub record CanRenew (T R S marks : List ℕ) (w limit n : ℕ) : Type 0 where
+pub record CanRenew (T R : List ℕ) (S : List Range) (marks : List ℕ) (w limit n : ℕ) : Type 0 where
   pub width : w ≤ 64
   pub few : n ≤ MOST
   pub limited : limit ≤ LIMIT
-  pub store_long : length S ≡ 2048
+  pub store_long : length S ≡ 1024
   pub table_room : place n ≤ length T
   pub room : place n ≤ length R
   pub formed : WellFormed (2 ^ w) (look T)
@@ -47,7 +48,7 @@ pub record CanRenew (T R S marks : List ℕ) (w limit n : ℕ) : Type 0 where
   pub kept_sort : (x : ℕ) → x < n → marked marks x ≡ false → is_array (look R x) ≡ is_array (look T x)
 
 -- S' is the store as the loop leaves it: it has the ranges of the word rows
-pub record Renewed (T R marks : List ℕ) (w limit n : ℕ) (R' S' : List ℕ) (counts : Counts) : Type 0 where
+pub record Renewed (T R marks : List ℕ) (w limit n : ℕ) (R' : List ℕ) (S' : List Range) (counts : Counts) : Type 0 where
   pub result : R' ≡ put_rows (marked marks) (outcome T R (marked marks) w limit n) (source_at T) n R
   pub rows : (x : ℕ) → x < n → look R' x ≡ outcome T R (marked marks) w limit n x
   pub ranges : (x : ℕ) → x < n → is_array (look T x) ≡ false → kept S' x ≡ range_of (2 ^ w) (outcome T R (marked marks) w limit n) x

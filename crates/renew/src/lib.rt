@@ -2,13 +2,17 @@
 // stores.
 #![tactic(auto)]
 
-ghost use Rattle.std.specs.Prelude.{◌≡◌, cond, not, ◌&&◌};
+ghost use Rattle.std.specs.Prelude.{◌≡◌, not, ◌&&◌};
 ghost use Rattle.term.specs.Term.{is_read};
 ghost use Rattle.term.specs.Bytes.{look};
 ghost use Rattle.judge.specs.Judge.{Placed, Both};
 ghost use Rattle.renew.specs.Renew.{CanTurn, Turned, CanRenew, Renewed};
 
-use row::Row;
+use marks::Marks;
+use names::Firsts;
+use range::Store;
+use row::{Kind, Row};
+use word::Width;
 
 // How many rows are READ in the table and not in the result, and how many stores were compared.
 #[derive(Clone, Copy)]
@@ -22,7 +26,7 @@ fn is_read(t: &[u8], x: usize) -> bool
     requires { Placed t.now x }
     ensures { result ≡ is_read (look t.now x) }
 {
-    Row::kind_at(t, x) == Row::READ
+    Row::kind_at(t, x) == Kind::Read as u8
 }
 
 // Whether row x is a READ in the table and not in the result.
@@ -30,29 +34,16 @@ fn is_removed(table: &[u8], res: &[u8], x: usize) -> bool
     requires { Both table.now res.now x }
     ensures { result ≡ (is_read (look table.now x) && not (is_read (look res.now x))) }
 {
-    if is_read(table, x) {
-        return !is_read(res, x);
-    }
-    false
-}
-
-// 1 where a test passed, else 0.
-fn one_if(passed: bool) -> u64
-    ensures { result ≡ cond passed 1 0 }
-{
-    if passed {
-        return 1;
-    }
-    0
+    is_read(table, x) && !is_read(res, x)
 }
 
 // Settles result row r and what the store keeps for it. Removed is 1 where it is no READ any more. `first` is the first row of its name.
 fn turn(
     table: &[u8],
     res: &mut [u8],
-    store: &mut [u64; 2048],
-    marks: &[u64; 16],
-    w: u32,
+    store: &mut Store,
+    marks: &Marks,
+    w: Width,
     limit: usize,
     r: usize,
     first: usize,
@@ -60,18 +51,9 @@ fn turn(
     requires { CanTurn table.now res.old store.old marks.now w r first }
     ensures { Turned table.now res.old res.new store.old store.new marks.now w limit r result }
 {
-    let compared = rules::write_row(
-        table,
-        res,
-        store,
-        w,
-        limit,
-        r,
-        first,
-        marks::is_marked(marks, r),
-    );
+    let compared = rules::write_row(table, res, store, w, limit, r, first, marks.is_marked(r));
     Counts {
-        removed: one_if(is_removed(table, res, r)),
+        removed: u64::from(is_removed(table, res, r)),
         compared: compared as u64,
     }
 }
@@ -80,28 +62,23 @@ fn turn(
 pub fn renew(
     table: &[u8],
     res: &mut [u8],
-    store: &mut [u64; 2048],
-    marks: &[u64; 16],
-    w: u32,
+    store: &mut Store,
+    marks: &Marks,
+    w: Width,
     limit: usize,
     n: usize,
 ) -> Counts
     requires { CanRenew table.now res.old store.old marks.now w limit n }
     ensures { Renewed table.now res.old marks.now w limit n res.new store.new result }
 {
-    let mut slots = [0u16; 256];
+    let mut firsts = Firsts::new();
     let mut removed = 0;
     let mut compared = 0;
-    let mut r = 0;
-    while r < n {
-        let first = names::first_of(table, &mut slots, r);
+    for r in 0..n {
+        let first = firsts.first_of(table, r);
         let counts = turn(table, res, store, marks, w, limit, r, first);
         removed += counts.removed;
         compared += counts.compared;
-        r += 1;
     }
-    Counts {
-        removed: removed,
-        compared: compared,
-    }
+    Counts { removed, compared }
 }

@@ -3,3 +3,5 @@ pub mod Places
 pub mod Rows
 pub mod Whole
 pub mod Steps
+pub mod States
+pub mod Named

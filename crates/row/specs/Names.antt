@@ -1,5 +1,5 @@
--- The numbers of the row, as the associated constants of `Row` have them: specs cannot name those, and `Row::named_places` and
--- `Row::named_kinds` hold the two together.
+-- The numbers of a row, as document 01 has them. They are stated here and not taken from the code, so that code with another number is refused:
+-- the constants of `Row` are these by `places_named` and `marks_named` of proofs/Named.antt, and the byte of a kind is its own by what `Kind::byte` promises.
 use Rattle.std.specs.Prelude.{ℕ, ◌+◌, ◌*◌}
 
 -- bytes of a header, and of a row

@@ -2,16 +2,20 @@
 // source: it goes with the row and is no part of what the row says, so `Row`, which the rules read and make, does not have it.
 #![tactic(auto)]
 
-ghost use Rattle.std.specs.Prelude.{◌≡◌, ◌+◌, ◌<◌, ◌≤◌, ◌^◌, length, ◌∷◌, []};
+ghost use Rattle.std.specs.Prelude.{◌≡◌, ◌+◌, ◌<◌, ◌≤◌, ◌^◌, length, eqb};
 ghost use Rattle.in_bytes.specs.Numbers.{Read};
-ghost use Rattle.row.specs.Names;
+ghost use Rattle.row.specs.Kinds.{byte_of};
 ghost use Rattle.row.specs.Names.{place, LENGTH};
 ghost use Rattle.row.specs.Bytes.{row, row_at, source_at, mark_wrong, Decoded};
 
-use in_bytes::{byte, eight, four, two};
+mod kind;
+
+use in_bytes::{byte, number};
+pub use kind::Kind;
 
 #[derive(Clone, Copy)]
 pub struct Row {
+    // a byte and no `Kind`: it is what stands in bytes that are lent, any value may stand there, and tries makes rows with such values
     pub kind: u8,
     pub a: usize,
     pub b: usize,
@@ -20,6 +24,7 @@ pub struct Row {
     pub h: u64,
 }
 
+// The constants are the numbers of specs/Names.antt, by proofs/Named.antt.
 impl Row {
     // bytes of a header, and of a row
     pub const HEADER: usize = 6;
@@ -30,25 +35,6 @@ impl Row {
     pub const MARK_0: u8 = 0x52;
 
     pub const MARK_1: u8 = 0x4F;
-
-    // the kinds
-    pub const CONST: u8 = 1;
-
-    pub const VAR: u8 = 2;
-
-    pub const SHIFT: u8 = 3;
-
-    pub const SUM: u8 = 4;
-
-    pub const DIFF: u8 = 5;
-
-    pub const NEG: u8 = 6;
-
-    pub const READ: u8 = 7;
-
-    pub const FRESH: u8 = 8;
-
-    pub const WRITE: u8 = 9;
 
     // where the fields stand, counted from the row's first byte
     pub const KIND: usize = 2;
@@ -67,43 +53,14 @@ impl Row {
 
     pub const SOURCE: usize = 26;
 
-    // The constants are those of specs/Names.antt: the lengths and the places here, the marks and the kinds below.
-    fn named_places() -> [usize; 10]
-        ensures { result ≡ Names.HEADER ∷ Names.LENGTH ∷ Names.KIND ∷ Names.ZERO ∷ Names.A ∷ Names.B ∷ Names.C ∷ Names.K ∷ Names.H ∷ Names.SOURCE ∷ [] }
+    // Whether the row is of a kind.
+    pub fn is(&self, kind: Kind) -> bool
+        ensures { result ≡ eqb self.now.kind (byte_of kind) }
     {
-        [
-            Row::HEADER,
-            Row::LENGTH,
-            Row::KIND,
-            Row::ZERO,
-            Row::A,
-            Row::B,
-            Row::C,
-            Row::K,
-            Row::H,
-            Row::SOURCE,
-        ]
+        self.kind == kind.byte()
     }
 
-    fn named_kinds() -> [u8; 11]
-        ensures { result ≡ Names.MARK_0 ∷ Names.MARK_1 ∷ Names.CONST ∷ Names.VAR ∷ Names.SHIFT ∷ Names.SUM ∷ Names.DIFF ∷ Names.NEG ∷ Names.READ ∷ Names.FRESH ∷ Names.WRITE ∷ [] }
-    {
-        [
-            Row::MARK_0,
-            Row::MARK_1,
-            Row::CONST,
-            Row::VAR,
-            Row::SHIFT,
-            Row::SUM,
-            Row::DIFF,
-            Row::NEG,
-            Row::READ,
-            Row::FRESH,
-            Row::WRITE,
-        ]
-    }
-
-    // The row of these numbers.
+    // The row of these numbers. Rows are made in many places, and there a literal of six lines would say no more than the six numbers in a line.
     pub fn make(kind: u8, a: usize, b: usize, c: usize, k: u64, h: u64) -> Row
         ensures { result ≡ row kind a b c k h }
     {
@@ -132,12 +89,12 @@ impl Row {
     {
         let at = Row::place(r);
         let kind = byte(t, at + Row::KIND);
-        let a = two(t, at + Row::A);
-        let b = two(t, at + Row::B);
-        let c = two(t, at + Row::C);
-        let k = eight(t, at + Row::K);
-        let h = eight(t, at + Row::H);
-        Row::make(kind as u8, a, b, c, k, h)
+        let a = number::<2>(t, at + Row::A);
+        let b = number::<2>(t, at + Row::B);
+        let c = number::<2>(t, at + Row::C);
+        let k = number::<8>(t, at + Row::K);
+        let h = number::<8>(t, at + Row::H);
+        Row::make(kind as u8, a as usize, b as usize, c as usize, k, h)
     }
 
     // The kind of row r of a table.
@@ -153,7 +110,7 @@ impl Row {
         requires { place r + LENGTH ≤ length t.now }
         ensures { Read (source_at t.now r) (2 ^ 32) result }
     {
-        four(t, Row::place(r) + Row::SOURCE)
+        number::<4>(t, Row::place(r) + Row::SOURCE)
     }
 
     // Whether the mark or the zero byte of row r is wrong.

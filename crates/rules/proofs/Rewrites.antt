@@ -6,6 +6,7 @@ use mathlib.Core.List.{List}
 use Rattle.range.specs.declared.Range.{Range}
 use Rattle.row.specs.declared.Row.{Row}
 use Rattle.row.specs.Bytes.{row}
+use Rattle.row.specs.Kinds.{StatesNone}
 use Rattle.row.specs.Names.{CONST, VAR, SHIFT, SUM, DIFF, NEG, READ, FRESH, WRITE}
 use Rattle.term.specs.Term.{Term, const, var, shift, sum, diff, neg, read, fresh, write, term_of, row_of, is_read}
 use Rattle.term.specs.Rule.{shift_rule, sum_rule, diff_rule, neg_rule, write_rule, rule}
@@ -21,9 +22,7 @@ use Rattle.walks.proofs.Terms.{
   term_read,
   term_fresh,
   term_write,
-  term_zero,
-  term_past,
-  NoKind,
+  term_none,
 }
 use Rattle.rules.specs.declared.Made.{Made}
 use Rattle.rules.specs.Made.{made, Makes}
@@ -31,31 +30,31 @@ use Rattle.rules.specs.Ready.{Unary, Binary, Reading, Writing, Asked, Traced}
 
 -- ---- what the rules ask
 
-module _ (R : List ℕ) (w r : ℕ) (x : Row) (given : Asked R w r (term_of x)) where
-  pub asked_shift : x.kind ≡ SHIFT → Unary R w r x.a
+module _ (R : List ℕ) (r : ℕ) (x : Row) (given : Asked R r (term_of x)) where
+  pub asked_shift : x.kind ≡ SHIFT → Unary R r x.a
   asked_shift e =
       let names : NamesBelow r (shift x.a x.k) = rw (term_shift x e) at given.names in
-      record { rows = given.rows; width = given.width; below = names }
+      record { rows = given.rows; below = names }
 
-  pub asked_sum : x.kind ≡ SUM → Binary R w r x.a x.b
+  pub asked_sum : x.kind ≡ SUM → Binary R r x.a x.b
   asked_sum e =
       let names : NamesBelow r (sum x.a x.b x.k) = rw (term_sum x e) at given.names in
-      record { rows = given.rows; width = given.width; left = names.0; right = names.1 }
+      record { rows = given.rows; left = names.0; right = names.1 }
 
-  pub asked_diff : x.kind ≡ DIFF → Binary R w r x.a x.b
+  pub asked_diff : x.kind ≡ DIFF → Binary R r x.a x.b
   asked_diff e =
       let names : NamesBelow r (diff x.a x.b x.k) = rw (term_diff x e) at given.names in
-      record { rows = given.rows; width = given.width; left = names.0; right = names.1 }
+      record { rows = given.rows; left = names.0; right = names.1 }
 
-  pub asked_neg : x.kind ≡ NEG → Unary R w r x.a
+  pub asked_neg : x.kind ≡ NEG → Unary R r x.a
   asked_neg e =
       let names : NamesBelow r (neg x.a x.k) = rw (term_neg x e) at given.names in
-      record { rows = given.rows; width = given.width; below = names }
+      record { rows = given.rows; below = names }
 
-  pub asked_read : x.kind ≡ READ → Reading R w r x.a x.b
+  pub asked_read : x.kind ≡ READ → Reading R r x.a x.b
   asked_read e =
       let names : NamesBelow r (read x.a x.b) = rw (term_read x e) at given.names in
-      record { rows = given.rows; width = given.width; array = names.0; index = names.1 }
+      record { rows = given.rows; array = names.0; index = names.1 }
 
   pub asked_write : x.kind ≡ WRITE → Writing R r x.a x.b x.c
   asked_write e =
@@ -63,7 +62,7 @@ module _ (R : List ℕ) (w r : ℕ) (x : Row) (given : Asked R w r (term_of x)) 
       record { rows = given.rows; array = names.0; index = names.1; element = names.2 }
 
 -- the array of a READ is one
-module _ (R S : List ℕ) (r : ℕ) (x : Row) (given : Traced R S r (term_of x)) where
+module _ (R : List ℕ) (S : List Range) (r : ℕ) (x : Row) (given : Traced R S r (term_of x)) where
   pub asked_follow : x.kind ≡ READ → Following R S r x.a
   asked_follow e =
       let sorts : SortsIn R (read x.a x.b) = rw (term_read x e) at given.sorts in
@@ -112,10 +111,6 @@ module _ (M limit : ℕ) (f : ℕ → Term) (g : ℕ → Range) (x : Row) (y : M
     unfolding rule is_read
     rewrite_write e q = at_once (write x.a x.b x.c) (term_write x e) refl q
 
-    pub rewrite_zero : x.kind ≡ 0 → z ≡ row CONST 0 0 0 0 0 → Makes M limit f g (term_of x) y
+    pub rewrite_none : StatesNone x.kind → z ≡ row CONST 0 0 0 0 0 → Makes M limit f g (term_of x) y
     unfolding rule row_of is_read
-    rewrite_zero e q = at_once (const 0) (term_zero x e) refl q
-
-    pub rewrite_past : NoKind x.kind → z ≡ row CONST 0 0 0 0 0 → Makes M limit f g (term_of x) y
-    unfolding rule row_of is_read
-    rewrite_past e q = at_once (const 0) (term_past x e) refl q
+    rewrite_none n q = at_once (const 0) (term_none x n) refl q

@@ -10,6 +10,7 @@ use Rattle.range.specs.Store.{kept}
 use Rattle.range.proofs.Spans.{point_proper, span_proper, full_proper}
 use Rattle.range.proofs.Laws.{sum_proper, negation_proper}
 use Rattle.row.specs.declared.Row.{Row}
+use Rattle.row.specs.Kinds.{StatesNone}
 use Rattle.row.specs.Names.{CONST, VAR, SHIFT, SUM, DIFF, NEG, READ, FRESH, WRITE}
 use Rattle.table.specs.Refusals.{MOST}
 use Rattle.term.specs.Term.{Term, const, var, shift, sum, diff, neg, read, fresh, write, term_of, is_array}
@@ -28,9 +29,7 @@ use Rattle.walks.proofs.Terms.{
   term_read,
   term_fresh,
   term_write,
-  term_zero,
-  term_past,
-  NoKind,
+  term_none,
 }
 use Rattle.rules.specs.Ready.{Ranged, Moving, RangedOne, RangedTwo, Ranging}
 use Rattle.rules.specs.Written.{entry}
@@ -41,7 +40,7 @@ module _ (M : ℕ) (a : Range) where
   pub point_known : (k : ℕ) → a ≡ point k → k < M → Proper M a
   point_known k e h = rw e (point_proper M k h)
 
-  pub kept_known : (S : List ℕ) (x : ℕ) → Proper M (kept S x) → a ≡ kept S x → Proper M a
+  pub kept_known : (S : List Range) (x : ℕ) → Proper M (kept S x) → a ≡ kept S x → Proper M a
   kept_known S x p e = rw e p
 
   pub sum_known : (b c : Range) → Proper M b → Proper M c → a ≡ range.sum M b c → Proper M a
@@ -51,12 +50,11 @@ module _ (M : ℕ) (a : Range) where
   negation_known b p e = rw e (negation_proper M b p)
 
 -- u + negated v, before k is added
-pub difference_moves : (S : List ℕ) (w r a b k : ℕ) (u v n s : Range) → RangedTwo S w r a b k
+pub difference_moves : (S : List Range) (w r a b k : ℕ) (u v n s : Range) → RangedTwo S w r a b k
     → u ≡ kept S a → v ≡ kept S b → n ≡ negation (2 ^ w) v → s ≡ range.sum (2 ^ w) u n → Moving w s k
 difference_moves S w r a b k u v n s given eu ev en es =
     let negated = negation_known (2 ^ w) n v (kept_known (2 ^ w) v S b given.right_proper ev) en in
     record {
-      width = given.width;
       proper = sum_known (2 ^ w) s u n (kept_known (2 ^ w) u S a given.left_proper eu) negated es;
       word = given.word;
     }
@@ -109,7 +107,7 @@ module _ (M : ℕ) (g : ℕ → Range) where
   unfolding entry
   entry_end = refl
 
-pub words_proper : (M : ℕ) (R S : List ℕ) (r : ℕ) → Ranged M R S r
+pub words_proper : (M : ℕ) (R : List ℕ) (S : List Range) (r : ℕ) → Ranged M R S r
     → (t : Term) → NamesBelow r t → SortsIn R t → WordsProper M (kept S) t
 words_proper M R S r ranges t n m =
     names_widen {W = λ s y. s ≡ false → Proper M (kept S y)} t
@@ -118,20 +116,20 @@ words_proper M R S r ranges t n m =
 
 -- ---- what the parts ask
 
-module _ (S : List ℕ) (w r : ℕ) (x : Row) (given : Ranging S w r (term_of x)) where
+module _ (S : List Range) (w r : ℕ) (x : Row) (given : Ranging S w r (term_of x)) where
   pub asks_shift : x.kind ≡ SHIFT → RangedOne S w r x.a x.k
   asks_shift e =
       let fits : Fits (2 ^ w) (shift x.a x.k) = rw (term_shift x e) at given.fits in
       let names : NamesBelow r (shift x.a x.k) = rw (term_shift x e) at given.names in
       let words : WordsProper (2 ^ w) (kept S) (shift x.a x.k) = rw (term_shift x e) at given.words in
-      record { few = given.few; width = given.width; below = names; proper = words refl; word = fits }
+      record { few = given.few; below = names; proper = words refl; word = fits }
 
   pub asks_neg : x.kind ≡ NEG → RangedOne S w r x.a x.k
   asks_neg e =
       let fits : Fits (2 ^ w) (neg x.a x.k) = rw (term_neg x e) at given.fits in
       let names : NamesBelow r (neg x.a x.k) = rw (term_neg x e) at given.names in
       let words : WordsProper (2 ^ w) (kept S) (neg x.a x.k) = rw (term_neg x e) at given.words in
-      record { few = given.few; width = given.width; below = names; proper = words refl; word = fits }
+      record { few = given.few; below = names; proper = words refl; word = fits }
 
   pub asks_sum : x.kind ≡ SUM → RangedTwo S w r x.a x.b x.k
   asks_sum e =
@@ -140,7 +138,6 @@ module _ (S : List ℕ) (w r : ℕ) (x : Row) (given : Ranging S w r (term_of x)
       let words : WordsProper (2 ^ w) (kept S) (sum x.a x.b x.k) = rw (term_sum x e) at given.words in
       record {
         few = given.few;
-        width = given.width;
         left = names.0;
         right = names.1;
         left_proper = words.0 refl;
@@ -155,7 +152,6 @@ module _ (S : List ℕ) (w r : ℕ) (x : Row) (given : Ranging S w r (term_of x)
       let words : WordsProper (2 ^ w) (kept S) (diff x.a x.b x.k) = rw (term_diff x e) at given.words in
       record {
         few = given.few;
-        width = given.width;
         left = names.0;
         right = names.1;
         left_proper = words.0 refl;
@@ -202,10 +198,6 @@ module _ (M : ℕ) (g : ℕ → Range) (x : Row) (a : Range) where
   unfolding entry range_by
   entry_write e q = rw (term_write x e) q
 
-  pub entry_zero : x.kind ≡ 0 → a ≡ point 0 → a ≡ entry M g (term_of x)
+  pub entry_none : StatesNone x.kind → a ≡ point 0 → a ≡ entry M g (term_of x)
   unfolding entry range_by
-  entry_zero e q = rw (term_zero x e) q
-
-  pub entry_past : NoKind x.kind → a ≡ point 0 → a ≡ entry M g (term_of x)
-  unfolding entry range_by
-  entry_past e q = rw (term_past x e) q
+  entry_none n q = rw (term_none x n) q

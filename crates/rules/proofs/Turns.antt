@@ -50,7 +50,7 @@ module _ (T : List ℕ) (r : ℕ) (x : Row) where
   decoded_term d = ap term_of d.is
 
 -- of a touched row
-module _ (T R S : List ℕ) (w limit r first : ℕ) (given : CanWrite T R S w r first true) where
+module _ (T R : List ℕ) (S : List Range) (w limit r first : ℕ) (given : CanWrite T R S w r first true) where
   abbrev row_made : Term
   row_made = rule_at (2 ^ w) limit (look T) (look R) (kept S) r
 
@@ -106,8 +106,8 @@ module _ (T R S : List ℕ) (w limit r first : ℕ) (given : CanWrite T R S w r 
     read_is : read_row ≡ term_of y
     read_is = seen_own (look T) r not_later ∙ sym (decoded_term T r y row)
 
-    pub made_asks : Asked R w r (term_of y)
-    made_asks = record { rows = given.rows; width = given.width; names = rw read_is at read_names }
+    pub made_asks : Asked R r (term_of y)
+    made_asks = record { rows = given.rows; names = rw read_is at read_names }
 
     pub made_traced : Traced R S r (term_of y)
     made_traced = record { links = given.links; sorted = given.sorted; sorts = rw read_is at read_sorts }
@@ -123,7 +123,7 @@ module _ (T R S : List ℕ) (w limit r first : ℕ) (given : CanWrite T R S w r 
 
 -- ---- settling a row
 
-module _ (T R S : List ℕ) (w limit r first : ℕ) (touched : Bool) (given : CanWrite T R S w r first touched) where
+module _ (T R : List ℕ) (S : List Range) (w limit r first : ℕ) (touched : Bool) (given : CanWrite T R S w r first touched) where
   origin_kept : touched ≡ false → origin T R r touched ≡ look R r
   unfolding origin
   origin_kept e = rw e
@@ -169,7 +169,7 @@ module _ (T R S : List ℕ) (w limit r first : ℕ) (touched : Bool) (given : Ca
 
 -- ---- what stands after the turn
 
-module _ (T R R' S : List ℕ) (w limit r first : ℕ) (touched : Bool) (made_row : Made)
+module _ (T R R' : List ℕ) (S : List Range) (w limit r first : ℕ) (touched : Bool) (made_row : Made)
     (given : CanWrite T R S w r first touched) (done : Settled T R R' S w limit r touched made_row) where
   abbrev x : Row
   x = made_row.row
@@ -219,9 +219,9 @@ module _ (T R R' S : List ℕ) (w limit r first : ℕ) (touched : Bool) (made_ro
 
   pub turn_asks : Ranging S w r (term_of x)
   turn_asks =
-      record { few = given.rows.few; width = given.width; fits = done.fits; names = done.names; words = settled_words }
+      record { few = given.rows.few; fits = done.fits; names = done.names; words = settled_words }
 
-  module _ (S' : List ℕ) (a : Range) (is : a ≡ entry (2 ^ w) (kept S) (term_of x)) (saved : S' ≡ keep S r a) where
+  module _ (S' : List Range) (a : Range) (is : a ≡ entry (2 ^ w) (kept S) (term_of x)) (saved : S' ≡ keep S r a) where
     saved_other : (y : ℕ) → y < r → kept S' y ≡ kept S y
     saved_other y h = rw saved (keep_other S r a y (λ e. omega arith))
 

@@ -35,7 +35,7 @@ unfoldable pub origin : List ℕ → List ℕ → ℕ → Bool → Term
 origin T R r touched = cond touched (seen (look T) r) (look R r)
 
 -- `first` is the first row of the name of row r of the table
-pub record CanWrite (T R S : List ℕ) (w r first : ℕ) (touched : Bool) : Type 0 where
+pub record CanWrite (T R : List ℕ) (S : List Range) (w r first : ℕ) (touched : Bool) : Type 0 where
   pub width : w ≤ 64
   pub few : r < MOST
   pub table_room : place r + LENGTH ≤ length T
@@ -50,19 +50,19 @@ pub record CanWrite (T R S : List ℕ) (w r first : ℕ) (touched : Bool) : Type
   pub first_is : first ≡ first_row (look T) r
 
 -- the bytes of the result with row r settled: a row that is made carries the source of the table's row
-unfoldable pub settled : List ℕ → List ℕ → List ℕ → ℕ → ℕ → ℕ → Bool → List ℕ
+unfoldable pub settled : List ℕ → List ℕ → List Range → ℕ → ℕ → ℕ → Bool → List ℕ
 settled T R S w limit r touched = put_if touched r (row_of (rule_at (2 ^ w) limit (look T) (look R) (kept S) r)) (source_at T r) R
 
 -- the row that then stands there
-unfoldable pub becomes : List ℕ → List ℕ → List ℕ → ℕ → ℕ → ℕ → Bool → Term
+unfoldable pub becomes : List ℕ → List ℕ → List Range → ℕ → ℕ → ℕ → Bool → Term
 becomes T R S w limit r touched = cond touched (rule_at (2 ^ w) limit (look T) (look R) (kept S) r) (look R r)
 
 -- how many stores are compared in the turn
-unfoldable pub compared_in : List ℕ → List ℕ → List ℕ → ℕ → ℕ → Bool → ℕ
+unfoldable pub compared_in : List ℕ → List ℕ → List Range → ℕ → ℕ → Bool → ℕ
 compared_in T R S limit r touched = cond touched (compared_by limit (look R) (kept S) (look T r)) 0
 
 -- x is that row, with that number
-pub record Settled (T R R' S : List ℕ) (w limit r : ℕ) (touched : Bool) (x : Made) : Type 0 where
+pub record Settled (T R R' : List ℕ) (S : List Range) (w limit r : ℕ) (touched : Bool) (x : Made) : Type 0 where
   pub result : R' ≡ settled T R S w limit r touched
   pub row : term_of x.row ≡ look R' r
   pub becomes : term_of x.row ≡ becomes T R S w limit r touched
@@ -71,7 +71,7 @@ pub record Settled (T R R' S : List ℕ) (w limit r : ℕ) (touched : Bool) (x :
   pub sorts : SortsIn R (term_of x.row)
   pub compared : x.compared ≡ compared_in T R S limit r touched
 
-pub record Written (T R R' S S' : List ℕ) (w limit r : ℕ) (touched : Bool) (compared : ℕ) : Type 0 where
+pub record Written (T R R' : List ℕ) (S S' : List Range) (w limit r : ℕ) (touched : Bool) (compared : ℕ) : Type 0 where
   pub result : R' ≡ settled T R S w limit r touched
   pub row : look R' r ≡ becomes T R S w limit r touched
   pub store : S' ≡ keep S r (entry (2 ^ w) (kept S) (look R' r))

@@ -22,19 +22,10 @@ pub struct Made {
 }
 
 impl Made {
-    pub fn make(row: Row, compared: usize) -> Made
-        ensures { result ≡ made row compared }
-    {
-        Made {
-            row: row,
-            compared: compared,
-        }
-    }
-
     // A row that is made without a walk.
     pub fn at_once(row: Row) -> Made
         ensures { result ≡ made row 0 }
     {
-        Made::make(row, 0)
+        Made { row, compared: 0 }
     }
 }

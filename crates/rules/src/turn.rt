@@ -11,26 +11,27 @@ use super::arrays::{read_rule, write_rule};
 use super::ranges::entry_of;
 use super::words::{diff_rule, neg_rule, shift_rule, sum_rule};
 use crate::Made;
-use row::Row;
+use range::Store;
+use row::{Kind, Row};
+use word::Width;
 
 // The result row of x, which stands as row r in the table.
-fn rewrite(res: &[u8], store: &[u64; 2048], w: u32, limit: usize, r: usize, x: Row) -> Made
-    requires asked { Asked res.now w r (term_of x) }
+fn rewrite(res: &[u8], store: &Store, w: Width, limit: usize, r: usize, x: Row) -> Made
+    requires asked { Asked res.now r (term_of x) }
     requires traced { Traced res.now store.now r (term_of x) }
     ensures { Makes (2 ^ w) limit (look res.now) (kept store.now) (term_of x) result }
 {
-    let kind = x.kind;
-    match kind {
-        Row::CONST => Made::at_once(Row::make(Row::CONST, 0, 0, 0, x.k, 0)),
-        Row::VAR => Made::at_once(Row::make(Row::VAR, x.a, 0, 0, x.k, x.h)),
-        Row::SHIFT => Made::at_once(shift_rule(res, w, r, x.a, x.k)),
-        Row::SUM => Made::at_once(sum_rule(res, w, r, x.a, x.b, x.k)),
-        Row::DIFF => Made::at_once(diff_rule(res, w, r, x.a, x.b, x.k)),
-        Row::NEG => Made::at_once(neg_rule(res, w, r, x.a, x.k)),
-        Row::READ => read_rule(res, store, w, limit, r, x.a, x.b),
-        Row::FRESH => Made::at_once(Row::make(Row::FRESH, 0, 0, 0, 0, 0)),
-        Row::WRITE => Made::at_once(write_rule(res, store, r, x.a, x.b, x.c)),
-        0 | 10..=255 => Made::at_once(Row::make(Row::CONST, 0, 0, 0, 0, 0)),
+    match Kind::of(x.kind) {
+        Some(Kind::Const) => Made::at_once(Row::make(Kind::Const as u8, 0, 0, 0, x.k, 0)),
+        Some(Kind::Var) => Made::at_once(Row::make(Kind::Var as u8, x.a, 0, 0, x.k, x.h)),
+        Some(Kind::Shift) => Made::at_once(shift_rule(res, w, r, x.a, x.k)),
+        Some(Kind::Sum) => Made::at_once(sum_rule(res, w, r, x.a, x.b, x.k)),
+        Some(Kind::Diff) => Made::at_once(diff_rule(res, w, r, x.a, x.b, x.k)),
+        Some(Kind::Neg) => Made::at_once(neg_rule(res, w, r, x.a, x.k)),
+        Some(Kind::Read) => read_rule(res, store, w, limit, r, x.a, x.b),
+        Some(Kind::Fresh) => Made::at_once(Row::make(Kind::Fresh as u8, 0, 0, 0, 0, 0)),
+        Some(Kind::Write) => Made::at_once(write_rule(res, store, r, x.a, x.b, x.c)),
+        None => Made::at_once(Row::make(Kind::Const as u8, 0, 0, 0, 0, 0)),
     }
 }
 
@@ -38,8 +39,8 @@ fn rewrite(res: &[u8], store: &[u64; 2048], w: u32, limit: usize, r: usize, x: R
 fn made(
     table: &[u8],
     res: &[u8],
-    store: &[u64; 2048],
-    w: u32,
+    store: &Store,
+    w: Width,
     limit: usize,
     r: usize,
     first: usize,
@@ -48,7 +49,7 @@ fn made(
     ensures { MakesAt (2 ^ w) limit (look table.now) (look res.now) (kept store.now) r result }
 {
     if first < r {
-        return Made::at_once(Row::make(Row::SHIFT, first, 0, 0, 0, 0));
+        return Made::at_once(Row::make(Kind::Shift as u8, first, 0, 0, 0, 0));
     }
     rewrite(res, store, w, limit, r, Row::decode(table, r))
 }
@@ -58,8 +59,8 @@ fn made(
 fn settle(
     table: &[u8],
     res: &mut [u8],
-    store: &[u64; 2048],
-    w: u32,
+    store: &Store,
+    w: Width,
     limit: usize,
     r: usize,
     first: usize,
@@ -81,8 +82,8 @@ fn settle(
 pub fn write_row(
     table: &[u8],
     res: &mut [u8],
-    store: &mut [u64; 2048],
-    w: u32,
+    store: &mut Store,
+    w: Width,
     limit: usize,
     r: usize,
     first: usize,
@@ -93,6 +94,6 @@ pub fn write_row(
 {
     let x = settle(table, res, store, w, limit, r, first, touched);
     let a = entry_of(store, w, r, x.row);
-    range::save(store, r, a);
+    store.save(r, a);
     x.compared
 }

@@ -9,8 +9,7 @@ use lib.ListN.{length}
 use borrow.Author.Tests.{eq-eqb, ne_eqb, le-leb, lt-leb, leb-false, not-true, not-false}
 use Rattle.basis.proofs.Pick.{test_case}
 use Rattle.text.specs.Text.{ascii}
-use Rattle.argument.specs.declared.Parsed.{Parsed}
-use Rattle.argument.specs.declared.Parsed.TheVariants.{Number, Nothing}
+use Rattle.std.specs.Prelude.{Option, Some, None}
 use Rattle.argument.specs.Argument.{same_word, number_of, DIGITS}
 use Rattle.argument.proofs.Words.{other_length}
 use Rattle.argument.proofs.Numbers.{word_empty, word_long}
@@ -19,37 +18,37 @@ use Rattle.show.specs.Limit.{within, limit_from}
 
 -- ---- a number
 
-module _ (given : Parsed) (limit : ℕ) (told : given ≡ Number limit) where
-  pub limit_above : LIMIT < limit → Nothing ≡ within given
+module _ (given : Option ℕ) (limit : ℕ) (told : given ≡ Some limit) where
+  pub limit_above : LIMIT < limit → None ≡ within given
   unfolding within
   limit_above high = rw (told, lt-leb limit LIMIT high)
 
-  pub limit_within : limit ≤ LIMIT → Number limit ≡ within given
+  pub limit_within : limit ≤ LIMIT → Some limit ≡ within given
   unfolding within
   limit_within low = rw (told, le-leb limit LIMIT low)
 
-pub no_limit : (given : Parsed) → given ≡ Nothing → Nothing ≡ within given
+pub no_limit : (given : Option ℕ) → given ≡ None → None ≡ within given
 unfolding within
 no_limit given told = rw told
 
 -- ---- the arguments
 
 module _ (count : ℕ) (word value : List ℕ) where
-  pub none_given : count ≡ 1 → Number LIMIT ≡ limit_from count word value
+  pub none_given : count ≡ 1 → Some LIMIT ≡ limit_from count word value
   unfolding limit_from
   none_given e = rw (eq-eqb count 1 e)
 
   module _ (some : count ≡ 1 → ⊥) where
-    pub miscounted : (count ≡ 3 → ⊥) → Nothing ≡ limit_from count word value
+    pub miscounted : (count ≡ 3 → ⊥) → None ≡ limit_from count word value
     unfolding limit_from
     miscounted other = rw (ne_eqb count 1 some, ne_eqb count 3 other)
 
     module _ (two : count ≡ 3) (named : Bool) (told : named ≡ same_word word (ascii "--limit")) where
-      pub misnamed : not named ≡ true → Nothing ≡ limit_from count word value
+      pub misnamed : not named ≡ true → None ≡ limit_from count word value
       unfolding limit_from
       misnamed e = rw (ne_eqb count 1 some, eq-eqb count 3 two, ← told, not-true named e)
 
-      pub limit_given : not named ≡ false → (given : Parsed) → given ≡ number_of value → (r : Parsed) → r ≡ within given
+      pub limit_given : not named ≡ false → (given : Option ℕ) → given ≡ number_of value → (r : Option ℕ) → r ≡ within given
           → r ≡ limit_from count word value
       unfolding limit_from
       limit_given e given is r done = rw (ne_eqb count 1 some, eq-eqb count 3 two, ← told, not-false named e, ← is) done

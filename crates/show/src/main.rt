@@ -9,7 +9,6 @@ ghost use Rattle.lines.specs.Lines.{Chunk};
 ghost use Rattle.table.specs.Refusals.{LARGEST};
 ghost use Rattle.show.specs.Shown.{Counted};
 
-use argument::Parsed;
 use printing::{print, print_refusal};
 use row::Row;
 use std::io;
@@ -24,33 +23,27 @@ fn print_lines<R: Print>(rt: &R, t: &[u8], from: usize, count: usize) -> io::Res
 {
     let mut out = [0u8; lines::LINE * CHUNK];
     let size = lines::put_lines(&mut out, t, from, count);
-    print(rt, &out, size)
+    print(rt, &out[..size])
 }
 
-// Prints the lines of the first n rows.
+// Prints the lines of the first n rows. A `while`: a turn goes on by the rows that it printed, which are fewer in the last one.
 fn print_rows<R: Print>(rt: &R, t: &[u8], n: usize) -> io::Result<()>
     requires { place n ≤ length t.now }
 {
     let mut from = 0;
     while from < n {
-        let count = least(n - from, CHUNK);
+        let count = (n - from).min(CHUNK);
         print_lines(rt, t, from, count)?;
         from += count;
     }
     Ok(())
 }
 
-fn least(a: usize, b: usize) -> usize
-    ensures { result ≡ min a b }
-{
-    if a < b { a } else { b }
-}
-
 // Prints the first line of a result.
 fn print_head<R: Print>(rt: &R, width: u64, rows: u64) -> io::Result<()> {
     let mut out = [0u8; lines::SHORT];
     let size = lines::put_head(&mut out, width, rows);
-    print(rt, &out, size)
+    print(rt, &out[..size])
 }
 
 // How many rows an accepted table of so many bytes has: the header is shorter than a row.
@@ -81,7 +74,7 @@ fn print_use<R: Print>(rt: &R) -> io::Result<()> {
 
 fn main(rt: HostRuntime) -> io::Result<()> {
     match limit::limit_asked(&rt) {
-        Parsed::Number(limit) => show(&rt, limit),
-        Parsed::Nothing => print_use(&rt),
+        Some(limit) => show(&rt, limit),
+        None => print_use(&rt),
     }
 }

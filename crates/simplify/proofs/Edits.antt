@@ -15,7 +15,7 @@ use Rattle.row.specs.Names.{HEADER, LENGTH, place}
 use Rattle.basis.proofs.Sets.{sets_undone}
 use Rattle.row.proofs.Places.{header_below, room_in}
 use Rattle.row.proofs.Rows.{take_stays}
-use Rattle.table.specs.declared.Verdict.{Verdict}
+use Rattle.table.specs.Verdict.{Verdict}
 use Rattle.table.specs.Refusals.{rows, refuse, accepted, head_reasons, check_rows, check_table}
 use Rattle.table.proofs.Heads.{good_head}
 use Rattle.table.proofs.Faulty.{given_passes, given_refuses}

@@ -1,17 +1,18 @@
 -- A fresh run: what its parts ask, and that what they leave is what the public promise says.
-use Prim.Native.Nat.{ℕ, ◌^◌, ◌≤◌, ◌<◌, ◌-◌}
+use Prim.Native.Nat.{ℕ, ◌^◌, ◌≤◌, ◌<◌}
+use Rattle.range.specs.declared.Range.{Range}
 use native.Mathlib.Omega.{arith}
 use mathlib.Core.Path.{◌≡◌, refl, ap, sym, ◌∙◌}
 use mathlib.Core.Bool.{true, true≢false}
 use mathlib.Core.List.{List}
-use lib.ListN.{length, take, replicate}
+use lib.ListN.{length, take}
 use lib.Seq.{sets, length-sets}
 use borrow.Author.Tests.{ne_eqb}
 use Rattle.row.specs.Names.{HEADER, place}
 use Rattle.row.specs.Bytes.{source_at}
 use Rattle.in_bytes.specs.Numbers.{Read}
 use Rattle.row.proofs.Places.{header_below}
-use Rattle.table.specs.declared.Verdict.{Verdict}
+use Rattle.table.specs.Verdict.{Verdict}
 use Rattle.table.specs.Refusals.{width, rows, MOST, refuse, accepted}
 use Rattle.table.specs.Accepted.{Accepted}
 use Rattle.table.proofs.Accepts.{accepted_gives}
@@ -22,7 +23,6 @@ use Rattle.term.proofs.Placed.{length_put_rows}
 use Rattle.term.proofs.WellFormed.{formed_below}
 use Rattle.term.proofs.Accepted.{accepted_formed}
 use Rattle.marks.specs.Marks.{marked}
-use Rattle.marks.proofs.Marks.{all_marked}
 use Rattle.judge.specs.Verdict.{is_accepted}
 use Rattle.judge.specs.Run.{LIMIT, run_verdict}
 use Rattle.judge.proofs.Verdicts.{accepted_is}
@@ -36,19 +36,15 @@ use Rattle.simplify.specs.Run.{fresh_rows, fresh_bytes, fresh_removed, fresh_com
 use Rattle.simplify.specs.Fresh.{CanFresh, Freshly}
 use Rattle.renew.proofs.Outcome.{outcome_is, ranges_are, bytes_are, removed_is, compared_is}
 
--- every row is marked
-pub record AllMarked (marks : List ℕ) : Type 0 where
-  pub all : (x : ℕ) → x < 1024 → marked marks x ≡ true
-
-pub all_ones : AllMarked (replicate 16 (2 ^ 64 - 1))
-all_ones = record { all = all_marked }
-
-module _ (t buffer store : List ℕ) (limit : ℕ) (can : CanFresh t buffer store limit) where
+module _ (t buffer : List ℕ) (store : List Range) (limit : ℕ) (can : CanFresh t buffer store limit) where
   ok : Accepted t
   ok = accepted_gives t can.table
 
   pub header_fits : HEADER ≤ length t
   header_fits = rw ok.head.size (header_below (rows t))
+
+  pub width_fits : width t ≤ 64
+  width_fits = ok.head.width_high
 
   pub copies : Rooms t 0 HEADER buffer 0
   copies = let h : HEADER ≤ length t = header_fits in record { source = omega arith; target = omega (arith, can.room) }
@@ -59,8 +55,8 @@ module _ (t buffer store : List ℕ) (limit : ℕ) (can : CanFresh t buffer stor
   low : NamesBelow (look t)
   low = formed_below (2 ^ width t) (look t) (accepted_formed t ok)
 
-  asked : {marks : List ℕ} → AllMarked marks → CanRenew t begins store marks (width t) limit (rows t)
-  asked marks =
+  asked : {marks : List ℕ} → ((x : ℕ) → x < MOST → marked marks x ≡ true) → CanRenew t begins store marks (width t) limit (rows t)
+  asked all =
       let few : rows t ≤ MOST = ok.head.few in
       record {
         width = ok.head.width_high;
@@ -70,23 +66,23 @@ module _ (t buffer store : List ℕ) (limit : ℕ) (can : CanFresh t buffer stor
         table_room = rw ok.head.size (native.Mathlib.Nat.le_refl (place (rows t)));
         room = rw length-sets (rw (← ok.head.size) can.room);
         formed = accepted_formed t ok;
-        kept_fits = λ x l e. absurd (true≢false (sym (marks.all x (omega arith)) ∙ e));
-        kept_names = λ x l e. absurd (true≢false (sym (marks.all x (omega arith)) ∙ e));
-        kept_sorts = λ x l e. absurd (true≢false (sym (marks.all x (omega arith)) ∙ e));
-        kept_sort = λ x l e. absurd (true≢false (sym (marks.all x (omega arith)) ∙ e));
+        kept_fits = λ x l e. absurd (true≢false (sym (all x (omega arith)) ∙ e));
+        kept_names = λ x l e. absurd (true≢false (sym (all x (omega arith)) ∙ e));
+        kept_sorts = λ x l e. absurd (true≢false (sym (all x (omega arith)) ∙ e));
+        kept_sort = λ x l e. absurd (true≢false (sym (all x (omega arith)) ∙ e));
       }
 
-  module _ {w n : ℕ} {R marks : List ℕ} (all : AllMarked marks) (width_is : Read (width t) 256 w) (rows_is : Read (rows t) 65536 n) (copied : R ≡ begins) where
+  module _ {w n : ℕ} {R : List ℕ} (marks : List ℕ) (all : (x : ℕ) → x < MOST → marked marks x ≡ true) (width_is : Read (width t) 256 w) (rows_is : Read (rows t) 65536 n) (copied : R ≡ begins) where
     pub fresh_asks : CanRenew t R store marks w limit n
     fresh_asks = rw (width_is.is, rows_is.is, copied) (asked all)
 
-    few : (x : ℕ) → x < rows t → x < 1024
+    few : (x : ℕ) → x < rows t → x < MOST
     few x l = let h : rows t ≤ MOST = ok.head.few in omega arith
 
     marks_are : (x : ℕ) → x < rows t → marked marks x ≡ true
-    marks_are x l = all.all x (few x l)
+    marks_are x l = all x (few x l)
 
-    done : {R' S' : List ℕ} {counts : Counts} → Renewed t begins marks (width t) limit (rows t) R' S' counts → Freshly t buffer limit R' S' counts
+    done : {R' : List ℕ} {S' : List Range} {counts : Counts} → Renewed t begins marks (width t) limit (rows t) R' S' counts → Freshly t buffer limit R' S' counts
     unfolding fresh_bytes fresh_rows fresh_removed fresh_compared modulus result
     done d =
         record {
@@ -97,7 +93,7 @@ module _ (t buffer store : List ℕ) (limit : ℕ) (can : CanFresh t buffer stor
           compared = d.compared ∙ compared_is t begins store marks (width t) limit (rows t) (asked all) (λ x. true) (look t) (λ x e. low x) marks_are (λ x l e. absurd (true≢false e));
         }
 
-    pub fresh_done : {R' S' : List ℕ} {counts : Counts} → Renewed t R marks w limit n R' S' counts → Freshly t buffer limit R' S' counts
+    pub fresh_done : {R' : List ℕ} {S' : List Range} {counts : Counts} → Renewed t R marks w limit n R' S' counts → Freshly t buffer limit R' S' counts
     fresh_done renewed' = done (rw (width_is.is, rows_is.is, copied) at renewed')
 
 -- ---- run
@@ -140,7 +136,7 @@ module _ (t buffer : List ℕ) (limit : ℕ) {v : Verdict} (judged : v ≡ run_v
   run_few e = (run_granted t buffer limit (granted e)).few
 
   -- with this limit, or another
-  pub run_asks : (store : List ℕ) → length store ≡ 2048 → v.number ≡ 0 → {most : ℕ} → most ≤ LIMIT → CanFresh t buffer store most
+  pub run_asks : (store : List Range) → length store ≡ 1024 → v.number ≡ 0 → {most : ℕ} → most ≤ LIMIT → CanFresh t buffer store most
   run_asks store long e few =
       let ready : RunGranted t buffer limit = run_granted t buffer limit (granted e) in
       record { table = ready.table; room = ready.roomy.room; long = long; limited = few }
@@ -150,7 +146,7 @@ module _ (t buffer : List ℕ) (limit : ℕ) {v : Verdict} (judged : v ≡ run_v
       let ready : RunGranted t buffer limit = run_granted t buffer limit (granted e) in
       rw (accepted_gives t ready.table).head.size (header_below (rows t))
 
-  pub run_done : {left store : List ℕ} {counts : Counts} {n : ℕ} → v.number ≡ 0 → Freshly t buffer limit left store counts → Read (rows t) 65536 n →
+  pub run_done : {left : List ℕ} {store : List Range} {counts : Counts} {n : ℕ} → v.number ≡ 0 → Freshly t buffer limit left store counts → Read (rows t) 65536 n →
       Ran t buffer limit (record { refusal = 0; row = 0; removed = counts.removed; touched = n; compared = counts.compared }) left
   unfolding run_answer run_result
   run_done {counts = counts} {n = n} e fresh few =

@@ -5,7 +5,7 @@ use mathlib.Core.Bool.{true, false}
 use mathlib.Core.List.{List, [], ◌∷◌}
 use Rattle.basis.specs.Reason.{◌when◌, first}
 use Rattle.basis.proofs.Reasons.{first_none}
-use Rattle.table.specs.declared.Verdict.{Verdict}
+use Rattle.table.specs.Verdict.{Verdict}
 use Rattle.table.specs.Refusals.{accepted, given, check_rows}
 use Rattle.table.proofs.Faulty.{given_passes}
 use Rattle.term.specs.Bytes.{edited}

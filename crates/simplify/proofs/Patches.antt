@@ -1,14 +1,16 @@
 -- The rows that an edit works out anew: what the loop asks, and that what it leaves is what the public promise says.
 use Prim.Native.Nat.{ℕ, ◌^◌, ◌≤◌, ◌<◌}
+use Rattle.range.specs.declared.Range.{Range}
+use Rattle.range.specs.Range.{point}
 use native.Mathlib.Nat.{le_refl, le_trans, lt_trans, lt_of_lt_of_le}
 use mathlib.Core.Path.{◌≡◌, ap, sym, subst, ◌∙◌}
-use mathlib.Core.Bool.{Bool}
+use mathlib.Core.Bool.{false, Bool}
 use mathlib.Core.List.{List}
 use lib.ListN.{length, replicate, length-replicate}
 use Rattle.row.specs.Names.{HEADER, place}
 use Rattle.in_bytes.specs.Numbers.{Read}
 use Rattle.row.proofs.Places.{header_below, place_grows}
-use Rattle.table.specs.Refusals.{width, rows}
+use Rattle.table.specs.Refusals.{MOST, width, rows}
 use Rattle.table.specs.Accepted.{Accepted}
 use Rattle.table.proofs.Accepts.{accepted_gives}
 use Rattle.term.specs.Term.{is_array}
@@ -21,7 +23,6 @@ use Rattle.term.proofs.Accepted.{accepted_formed}
 use Rattle.walks.specs.Ready.{SortsIn}
 use Rattle.marks.specs.Marks.{marked}
 use Rattle.touching.specs.Touched.{CanMark, Marked}
-use Rattle.marks.proofs.Marks.{none_words, none_marked}
 use Rattle.judge.specs.Kept.{kept_part}
 use Rattle.judge.proofs.Right.{right_sorts, right_formed}
 use Rattle.renew.specs.declared.Counts.{Counts}
@@ -33,8 +34,8 @@ use Rattle.simplify.specs.Patch.{CanPatch, patch_answer, Patched}
 use Rattle.simplify.proofs.FreshRun.{answer_is}
 
 -- the store before any range is in it
-abbrev blank : List ℕ
-blank = replicate 2048 0
+abbrev blank : List Range
+blank = replicate 1024 (point 0)
 
 module _ (t old kept : List ℕ) (r limit : ℕ) (can : CanPatch t old kept r limit) where
   ok : Accepted t
@@ -42,6 +43,9 @@ module _ (t old kept : List ℕ) (r limit : ℕ) (can : CanPatch t old kept r li
 
   pub patch_header : HEADER ≤ length t
   patch_header = rw ok.head.size (header_below (rows t))
+
+  pub patch_width : width t ≤ 64
+  patch_width = ok.head.width_high
 
   abbrev part : List ℕ
   part = kept_part t kept
@@ -63,8 +67,8 @@ module _ (t old kept : List ℕ) (r limit : ℕ) (can : CanPatch t old kept r li
   part_sorts x l = names_widen (look part x) (λ s y (b : Below (look part) x s y). sym (same_sorts y (lt_trans b.below l)) ∙ b.sort) (part_formed.names x)
 
   module _ {n : ℕ} (rows_is : Read (rows t) 65536 n) where
-    pub patch_marks : CanMark t old n r (replicate 16 0)
-    patch_marks = record { ok = ok; few = rows_is.is; row = rw rows_is.is can.row; long = can.long; words = none_words; none = none_marked }
+    pub patch_marks : {no : List ℕ} → ((x : ℕ) → x < MOST → marked no x ≡ false) → CanMark t old n r no
+    patch_marks none = record { ok = ok; few = rows_is.is; row = rw rows_is.is can.row; long = can.long; none = none }
 
     module _ {marks : List ℕ} {count w : ℕ} (done : Marked t old r n marks count) (width_is : Read (width t) 256 w) where
       marks_are : (x : ℕ) → x < rows t → marked marks x ≡ is_touched (edited t r old) t r x
@@ -77,7 +81,7 @@ module _ (t old kept : List ℕ) (r limit : ℕ) (can : CanPatch t old kept r li
             width = ok.head.width_high;
             few = ok.head.few;
             limited = can.limited;
-            store_long = length-replicate {A = ℕ} 2048 0;
+            store_long = length-replicate {A = Range} 1024 (point 0);
             table_room = rw ok.head.size (le_refl (place (rows t)));
             room = rw (← ok.head.size) can.room;
             formed = accepted_formed t ok;
@@ -108,7 +112,7 @@ module _ (t old kept : List ℕ) (r limit : ℕ) (can : CanPatch t old kept r li
       abbrev touched : ℕ → Bool
       touched = is_touched (edited t r old) t r
 
-      module _ {R S : List ℕ} {counts : Counts} (d : Renewed t kept marks (width t) limit (rows t) R S counts) where
+      module _ {R : List ℕ} {S : List Range} {counts : Counts} (d : Renewed t kept marks (width t) limit (rows t) R S counts) where
         bytes_done : R ≡ edited_bytes limit (edited t r old) t r kept
         unfolding edited_bytes edited_rows modulus
         bytes_done = d.result ∙ bytes_are t kept blank marks (width t) limit (rows t) asked touched (look part) (λ x e. part_below x) marks_are (λ x l e. part_look x l)
@@ -121,7 +125,7 @@ module _ (t old kept : List ℕ) (r limit : ℕ) (can : CanPatch t old kept r li
         unfolding edited_compared edited_rows modulus
         compared_done = d.compared ∙ compared_is t kept blank marks (width t) limit (rows t) asked touched (look part) (λ x e. part_below x) marks_are (λ x l e. part_look x l)
 
-      pub patch_done : {R S : List ℕ} {counts : Counts} → Renewed t kept marks w limit n R S counts →
+      pub patch_done : {R : List ℕ} {S : List Range} {counts : Counts} → Renewed t kept marks w limit n R S counts →
           Patched t old kept r limit (record { refusal = 0; row = 0; removed = counts.removed; touched = count; compared = counts.compared }) R
       unfolding patch_answer touched_rows is_touched
       patch_done {R = R} {S = S} {counts = counts} d =

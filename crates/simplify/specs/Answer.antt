@@ -1,6 +1,6 @@
 -- What every public function answers: document 01, "What is answered"; document 02, A8.
 use Rattle.std.specs.Prelude.{ℕ, ◌^◌, cond, List}
-use Rattle.table.specs.declared.Verdict.{Verdict}
+use Rattle.table.specs.Verdict.{Verdict}
 use Rattle.table.specs.Refusals.{width}
 use Rattle.judge.specs.Verdict.{is_accepted}
 use Rattle.simplify.specs.declared.Answer.{Answer}

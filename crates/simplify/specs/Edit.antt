@@ -3,7 +3,7 @@ use Rattle.std.specs.Prelude.{ℕ, ◌≡◌, Bool, cond, List}
 use Rattle.basis.specs.Reason.{first}
 use Rattle.basis.specs.Count.{count_where}
 use Rattle.row.specs.Bytes.{source_at}
-use Rattle.table.specs.declared.Verdict.{Verdict}
+use Rattle.table.specs.Verdict.{Verdict}
 use Rattle.table.specs.Refusals.{rows, given, accepted, check_rows}
 use Rattle.term.specs.Term.{Term}
 use Rattle.term.specs.Result.{renewed, touched_in, removed_rows}

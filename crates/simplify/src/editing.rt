@@ -6,10 +6,12 @@ ghost use Rattle.simplify.specs.Edit.{Edited};
 ghost use Rattle.simplify.specs.Patch.{CanTake, CanPut, CanPatch, Patched};
 
 use crate::Answer;
-use crate::running::refused;
 use copying::copy;
+use marks::Marks;
+use range::Store;
 use renew::renew;
 use row::Row;
+use table::Refusal;
 
 // The bytes of row r, kept aside.
 fn take_row(table: &[u8], r: usize, old: &mut [u8])
@@ -33,15 +35,15 @@ fn patch(table: &[u8], old: &[u8], kept: &mut [u8], r: usize, limit: usize) -> A
     ensures { Patched table.now old.now kept.old r limit result kept.new }
 {
     let n = table::rows_of(table);
-    let mut marks = [0u64; 16];
+    let mut marks = Marks::none();
     let touched = touching::mark_touched(table, old, n, r, &mut marks);
-    let mut store = [0u64; 2048];
+    let mut store = Store::new();
     let counts = renew(
         table,
         kept,
         &mut store,
         &marks,
-        table::width_of(table),
+        table::word_width(table),
         limit,
         n,
     );
@@ -59,18 +61,16 @@ fn patch(table: &[u8], old: &[u8], kept: &mut [u8], r: usize, limit: usize) -> A
 pub fn edit(table: &mut [u8], kept: &mut [u8], row: u64, replacement: &[u8], limit: u64) -> Answer
     ensures { Edited table.old kept.old row replacement.now limit result table.new kept.new }
 {
-    let number = judge::edit(table, kept, row, replacement, limit);
-    if number != 0 {
-        return refused(number, 0);
+    if let Err(fault) = judge::edit(table, kept, row, replacement, limit) {
+        return Refusal::from(fault).into();
     }
     let r = row as usize;
     let mut old = [0u8; Row::LENGTH];
     take_row(table, r, &mut old);
     put_row(table, r, replacement);
-    let verdict = judge::with_kept(table, kept);
-    if verdict.number != 0 {
+    if let Err(refusal) = judge::with_kept(table, kept) {
         put_row(table, r, &old);
-        return refused(verdict.number, verdict.row);
+        return refusal.into();
     }
     patch(table, &old, kept, r, limit as usize)
 }

@@ -1,40 +1,26 @@
 // A fresh run.
-ghost use Rattle.std.specs.Prelude.{◌≡◌};
-ghost use Rattle.simplify.specs.Answer.{answer};
 ghost use Rattle.simplify.specs.Run.{Ran};
 ghost use Rattle.simplify.specs.Fresh.{CanFresh, Freshly};
 
 use crate::Answer;
 use copying::copy;
+use marks::Marks;
+use range::Store;
 use renew::{Counts, renew};
 use row::Row;
 
-// The answer of a refusal.
-pub fn refused(number: u64, row: u64) -> Answer
-    ensures { result ≡ answer number row 0 0 0 }
-{
-    Answer {
-        refusal: number,
-        row: row,
-        removed: 0,
-        touched: 0,
-        compared: 0,
-    }
-}
-
 // Writes the fresh result of an accepted table, keeps the ranges of its word rows, and answers how many reads it removed and how many stores they compared.
-pub fn fresh(table: &[u8], res: &mut [u8], store: &mut [u64; 2048], limit: usize) -> Counts
+pub fn fresh(table: &[u8], res: &mut [u8], store: &mut Store, limit: usize) -> Counts
     requires { CanFresh table.now res.old store.old limit }
     ensures { Freshly table.now res.old limit res.new store.new result }
 {
-    let marks = [u64::MAX; 16];
     copy(table, 0, Row::HEADER, res, 0);
     renew(
         table,
         res,
         store,
-        &marks,
-        table::width_of(table),
+        &Marks::all(),
+        table::word_width(table),
         limit,
         table::rows_of(table),
     )
@@ -44,11 +30,10 @@ pub fn fresh(table: &[u8], res: &mut [u8], store: &mut [u64; 2048], limit: usize
 pub fn run(table: &[u8], res: &mut [u8], limit: u64) -> Answer
     ensures { Ran table.now res.old limit result res.new }
 {
-    let verdict = judge::run(table, res, limit);
-    if verdict.number != 0 {
-        return refused(verdict.number, verdict.row);
+    if let Err(refusal) = judge::run(table, res, limit) {
+        return refusal.into();
     }
-    let mut store = [0u64; 2048];
+    let mut store = Store::new();
     let counts = fresh(table, res, &mut store, limit as usize);
     Answer {
         refusal: 0,

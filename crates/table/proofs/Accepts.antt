@@ -11,12 +11,12 @@ use Rattle.row.specs.declared.Row.{Row}
 use Rattle.row.specs.Names.{VAR}
 use Rattle.row.specs.Bytes.{row_at}
 use Rattle.table.specs.declared.Uses.{Uses}
-use Rattle.table.specs.Uses.{uses_of}
-use Rattle.table.specs.Refusals.{width, reference, use_at, is_used, is_reference, any_field, stray_field, large_number, not_below, wrong_sort, bounds_crossed, row_reasons, accepted, check_table, head_reasons}
+use Rattle.table.specs.Uses.{is_used, is_reference, uses_of}
+use Rattle.table.specs.Refusals.{width, reference, use_at, any_field, stray_field, large_number, not_below, wrong_sort, bounds_crossed, row_reasons, accepted, check_table, head_reasons}
 use Rattle.table.specs.Accepted.{GoodRow, Accepted}
 use Rattle.table.proofs.Heads.{good_head, head_none}
 use Rattle.table.proofs.Any.{any_none, none_any}
-use Rattle.table.proofs.Fields.{refers_below}
+use Rattle.table.proofs.Fields.{refers_below, refers_true, refers_same}
 use Rattle.table.proofs.Exactly.{not_refused, accepted_none}
 
 -- ---- tests joined
@@ -77,7 +77,7 @@ module _ (t : List ℕ) (r : ℕ) (x : Row) where
         k_word = λ e. leb-false (2 ^ width t) x.k (and_fails u.k _ (or_left large_k large_h larges) e);
         h_word = λ e. leb-false (2 ^ width t) x.h (and_fails u.h _ (or_right large_k large_h larges) e);
         below = λ f l e. refers_below r u x f (below f l) e;
-        sort = λ f l e. eqb-true _ _ (not-false _ (and_fails (is_reference (use_at u f)) _ (sorts f l) e));
+        sort = λ f l e. refers_true _ _ (not-false _ (and_fails (is_reference (use_at u f)) _ (sorts f l) e));
         bounds = λ e. ltb-false x.h x.k (and_fails (eqb x.kind VAR) _ none.1.1.1.1.1.1.0 (eq-eqb x.kind VAR e));
         agrees = none.1.1.1.1.1.1.1.0;
       }
@@ -100,7 +100,7 @@ module _ (t : List ℕ) (r : ℕ) (x : Row) where
               (
                 none_any (not_below r u x) (λ f l. fails_and (is_reference (use_at u f)) _ (λ e. lt-leb r (reference x f) (good.below f l e))),
                 (
-                  none_any (wrong_sort t u x) (λ f l. fails_and (is_reference (use_at u f)) _ (λ e. ap not (eq-eqb _ _ (good.sort f l e)))),
+                  none_any (wrong_sort t u x) (λ f l. fails_and (is_reference (use_at u f)) _ (λ e. ap not (refers_same _ _ (good.sort f l e)))),
                   (
                     fails_and (eqb x.kind VAR) _ (λ e. le-ltb x.h x.k (good.bounds (eqb-true x.kind VAR e))),
                     (good.agrees, tt),

@@ -11,7 +11,7 @@ use Rattle.basis.specs.Reason.{first}
 use Rattle.basis.proofs.Pick.{test_case}
 use Rattle.basis.proofs.Reasons.{NoneHolds, FirstHolds, first_none, none_first, first_holds, holds_first}
 use Rattle.row.specs.Bytes.{row_at}
-use Rattle.table.specs.declared.Verdict.{Verdict}
+use Rattle.table.specs.Verdict.{Verdict}
 use Rattle.table.specs.Refusals.{rows, head_reasons, row_reasons, row_fault, refuse, accepted, check_rows, check_table}
 use Rattle.table.proofs.Faulty.{given_passes, given_refuses, refuse_number, refuse_row, AllPass, FirstFault, all_pass_after, first_fault_given, scanned, accepted_all, refused_same}
 

@@ -1,36 +1,39 @@
 -- What kinds use, kind by kind, and what a reference field that passed 13 names.
-use Prim.Native.Nat.{ℕ, ◌≤◌, ◌<◌}
-use native.Mathlib.Omega.{arith}
-use mathlib.Core.Path.{◌≡◌, refl}
+use Prim.Native.Nat.{ℕ, ◌<◌}
+use mathlib.Core.Path.{◌≡◌, refl, ap}
 use mathlib.Core.Bool.{true, false}
-use lib.ListN.{get_or-eq_default}
-use borrow.Author.Tests.{eq-eqb, ne_eqb, leb-false}
+use borrow.Author.Tests.{eq-eqb, leb-false}
 use Rattle.row.specs.declared.Row.{Row}
-use Rattle.row.specs.Names.{FRESH, WRITE}
 use Rattle.table.specs.declared.Uses.{Uses}
-use Rattle.table.specs.Uses.{UNUSED, WORD, uses, table, sort_of, uses_of}
-use Rattle.table.specs.Refusals.{reference, use_at, is_reference, not_below, other_bounds}
+use Rattle.table.specs.declared.Sort.{Sort}
+use Rattle.table.specs.declared.Sort.TheVariants.{Word, Array}
+use Rattle.table.specs.declared.Use.{Use}
+use Rattle.table.specs.declared.Use.TheVariants.{Unused, Name, Refers}
+use Rattle.table.specs.Uses.{is_sort, is_reference, refers_to}
+use Rattle.table.specs.Refusals.{reference, use_at, not_below, other_bounds}
 
-above_four : (k : ℕ) → (k ≡ 0 → ⊥) → (k ≡ 1 → ⊥) → (k ≡ 2 → ⊥) → (k ≡ 3 → ⊥) → (k ≡ 4 → ⊥) → 5 ≤ k
-above_four k a b c d e = omega arith
+-- what refers to a row of a sort, and what two sorts are
+pub sort_true : (s other : Sort) → is_sort s other ≡ true → s ≡ other
+unfolding is_sort
+sort_true Word Word e = refl
+sort_true Array Array e = refl
+sort_true Word Array e = cc
+sort_true Array Word e = cc
 
-above_nine : (k : ℕ) → 5 ≤ k → (k ≡ 5 → ⊥) → (k ≡ 6 → ⊥) → (k ≡ 7 → ⊥) → (k ≡ 8 → ⊥) → (k ≡ 9 → ⊥) → 10 ≤ k
-above_nine k l a b c d e = omega arith
+pub sort_same : (s : Sort) → is_sort s s ≡ true
+unfolding is_sort
+sort_same Word = refl
+sort_same Array = refl
 
--- what is no kind uses nothing
-pub no_kind_uses : (k : ℕ) → (k ≡ 0 → ⊥) → (k ≡ 1 → ⊥) → (k ≡ 2 → ⊥) → (k ≡ 3 → ⊥) → (k ≡ 4 → ⊥) → (k ≡ 5 → ⊥) → (k ≡ 6 → ⊥) → (k ≡ 7 → ⊥) → (k ≡ 8 → ⊥)
-    → (k ≡ 9 → ⊥) → uses_of k ≡ uses UNUSED UNUSED UNUSED false false
-unfolding uses_of
-no_kind_uses k a b c d e f g h i j = get_or-eq_default table (uses UNUSED UNUSED UNUSED false false) {n = k} (above_nine k (above_four k a b c d e) f g h i j)
+pub refers_true : (s : Sort) (u : Use) → refers_to s u ≡ true → Refers s ≡ u
+unfolding refers_to
+refers_true s Unused e = cc
+refers_true s Name e = cc
+refers_true s (Refers other) e = ap Refers (sort_true s other e)
 
--- 0 is no kind
-pub kind_zero_uses : (k : ℕ) → k ≡ 0 → uses_of k ≡ uses UNUSED UNUSED UNUSED false false
-unfolding uses_of
-kind_zero_uses k e = rw e
-
-pub word_sort : (k : ℕ) → (k ≡ FRESH → ⊥) → (k ≡ WRITE → ⊥) → WORD ≡ sort_of k
-unfolding sort_of
-word_sort k a b = rw (ne_eqb k FRESH a, ne_eqb k WRITE b)
+pub refers_same : (s : Sort) (u : Use) → Refers s ≡ u → refers_to s u ≡ true
+unfolding refers_to
+refers_same s u e = rw (← e) (sort_same s)
 
 pub refers_below : (r : ℕ) (u : Uses) (x : Row) (f : ℕ) → not_below r u x f ≡ false → is_reference (use_at u f) ≡ true → reference x f < r
 unfolding not_below

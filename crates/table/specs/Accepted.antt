@@ -4,8 +4,9 @@ use Rattle.row.specs.Names.{VAR, place}
 use Rattle.row.specs.Bytes.{row_at, mark_wrong}
 use Rattle.row.specs.declared.Row.{Row}
 use Rattle.table.specs.declared.Uses.{Uses}
-use Rattle.table.specs.Uses.{sort_of, uses_of}
-use Rattle.table.specs.Refusals.{width, rows, MOST, head_wrong, is_used, is_reference, use_at, reference, other_bounds}
+use Rattle.table.specs.declared.Use.TheVariants.{Refers}
+use Rattle.table.specs.Uses.{sort_of, is_used, is_reference, uses_of}
+use Rattle.table.specs.Refusals.{width, rows, MOST, head_wrong, use_at, reference, other_bounds}
 use Rattle.names.specs.First.{name_at, first_of}
 
 -- row r of the table, which is x, and u, what its kind uses
@@ -19,7 +20,7 @@ pub record GoodRow (t : List ℕ) (r : ℕ) (x : Row) (u : Uses) : Type 0 where
   pub k_word : u.k ≡ true → x.k < 2 ^ width t
   pub h_word : u.h ≡ true → x.h < 2 ^ width t
   pub below : (f : ℕ) → f < 3 → is_reference (use_at u f) ≡ true → reference x f < r
-  pub sort : (f : ℕ) → f < 3 → is_reference (use_at u f) ≡ true → sort_of (row_at t (reference x f)).kind ≡ use_at u f
+  pub sort : (f : ℕ) → f < 3 → is_reference (use_at u f) ≡ true → Refers (sort_of (row_at t (reference x f)).kind) ≡ use_at u f
   pub bounds : x.kind ≡ VAR → x.k ≤ x.h
   pub agrees : other_bounds x (row_at t (first_of (name_at t) r)) ≡ false
 

@@ -1,4 +1,6 @@
 -- What the contracts of this crate say.
 pub mod Uses
+pub mod Verdict
+pub mod Fault
 pub mod Refusals
 pub mod Accepted

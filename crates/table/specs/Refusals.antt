@@ -5,8 +5,10 @@ use Rattle.row.specs.Names.{HEADER, LENGTH, VAR, place}
 use Rattle.in_bytes.specs.Numbers.{byte, number}
 use Rattle.row.specs.Bytes.{row_at, mark_wrong}
 use Rattle.table.specs.declared.Uses.{Uses}
-use Rattle.table.specs.declared.Verdict.{Verdict}
-use Rattle.table.specs.Uses.{UNUSED, WORD, sort_of, uses_of}
+use Rattle.table.specs.Verdict.{Verdict}
+use Rattle.table.specs.declared.Use.{Use}
+use Rattle.table.specs.declared.Use.TheVariants.{Unused}
+use Rattle.table.specs.Uses.{sort_of, is_used, is_reference, refers_to, uses_of}
 use Rattle.row.specs.declared.Row.{Row}
 use Rattle.names.specs.First.{name_at, first_of}
 
@@ -42,15 +44,8 @@ head_reasons t =
 unfoldable pub reference : Row → ℕ → ℕ
 reference x f = get_or (x.a ∷ x.b ∷ x.c ∷ []) f 0
 
-unfoldable pub use_at : Uses → ℕ → ℕ
-use_at u f = get_or (u.a ∷ u.b ∷ u.c ∷ []) f 0
-
-unfoldable pub is_used : ℕ → Bool
-is_used u = not (eqb u UNUSED)
-
--- used to refer to a row
-unfoldable pub is_reference : ℕ → Bool
-is_reference u = leb WORD u
+unfoldable pub use_at : Uses → ℕ → Use
+use_at u f = get_or (u.a ∷ u.b ∷ u.c ∷ []) f Unused
 
 -- one of the three reference fields passes the test
 unfoldable pub any_field : (ℕ → Bool) → Bool
@@ -73,7 +68,7 @@ not_below r u x f = is_reference (use_at u f) && leb r (reference x f)
 
 -- 14
 unfoldable pub wrong_sort : List ℕ → Uses → Row → ℕ → Bool
-wrong_sort t u x f = is_reference (use_at u f) && not (eqb (sort_of (row_at t (reference x f)).kind) (use_at u f))
+wrong_sort t u x f = is_reference (use_at u f) && not (refers_to (sort_of (row_at t (reference x f)).kind) (use_at u f))
 
 -- 15
 unfoldable pub bounds_crossed : Row → Bool

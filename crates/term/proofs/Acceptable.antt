@@ -22,8 +22,11 @@ use Rattle.row.proofs.Places.{header_below}
 use Rattle.table.specs.declared.Uses.{Uses}
 use Rattle.names.specs.First.{name_of, name_at, first_of}
 use Rattle.names.proofs.First.{alone_first}
-use Rattle.table.specs.Uses.{UNUSED, NAME, WORD, ARRAY, sort_of, uses_of}
-use Rattle.table.specs.Refusals.{width, rows, MOST, head_wrong, is_used, is_reference, use_at, reference, other_bounds}
+use Rattle.table.specs.declared.Sort.TheVariants.{Word, Array}
+use Rattle.table.specs.declared.Use.{Use}
+use Rattle.table.specs.declared.Use.TheVariants.{Unused, Name, Refers}
+use Rattle.table.specs.Uses.{sort_of, is_used, is_reference, uses_of}
+use Rattle.table.specs.Refusals.{width, rows, MOST, head_wrong, use_at, reference, other_bounds}
 use Rattle.table.specs.Accepted.{GoodRow, Accepted}
 use Rattle.term.specs.Term.{Term, const, var, shift, sum, diff, neg, read, fresh, write, row_of, stated_by, is_array}
 use Rattle.term.specs.WellFormed.{Fits, Names, Below, WellFormed}
@@ -34,7 +37,7 @@ use Rattle.term.proofs.Rows.{name_row}
 use Rattle.term.proofs.Placed.{length_put_rows, put_rows_row, put_rows_head}
 use Rattle.term.proofs.Looked.{cut_row, cut_mark, put_rows_mark, small_term}
 
-sort_row : (t : Term) → sort_of (row_of t).kind ≡ cond (is_array t) ARRAY WORD
+sort_row : (t : Term) → sort_of (row_of t).kind ≡ cond (is_array t) Array Word
 unfolding sort_of row_of is_array
 sort_row (const k) = refl
 sort_row (var name k h) = refl
@@ -55,29 +58,29 @@ field_case P p q s (suc (suc (suc f))) l = absurd (omega arith)
 
 -- row y stands below row r, and is an array or a word as it is used
 abbrev Placed : List ℕ → ℕ → Bool → ℕ → Type 0
-Placed s r array y = (y < r) × (sort_of (row_at s y).kind ≡ cond array ARRAY WORD)
+Placed s r array y = (y < r) × (sort_of (row_at s y).kind ≡ cond array Array Word)
 
 -- the value in a reference field, by what the kind uses it as
-record Field (s : List ℕ) (r used value : ℕ) : Type 0 where
+record Field (s : List ℕ) (r : ℕ) (used : Use) (value : ℕ) : Type 0 where
   unused : is_used used ≡ false → value ≡ 0
   below : is_reference used ≡ true → value < r
-  sort : is_reference used ≡ true → sort_of (row_at s value).kind ≡ used
+  sort : is_reference used ≡ true → Refers (sort_of (row_at s value).kind) ≡ used
 
-no_field : {s : List ℕ} {r value : ℕ} → value ≡ 0 → Field s r UNUSED value
+no_field : {s : List ℕ} {r value : ℕ} → value ≡ 0 → Field s r Unused value
 unfolding is_reference
 no_field e = record { unused = λ q. e; below = λ q. absurd (false≢true q); sort = λ q. absurd (false≢true q) }
 
-name_field : {s : List ℕ} {r value : ℕ} → Field s r NAME value
+name_field : {s : List ℕ} {r value : ℕ} → Field s r Name value
 unfolding is_used is_reference
 name_field = record { unused = λ q. absurd (true≢false q); below = λ q. absurd (false≢true q); sort = λ q. absurd (false≢true q) }
 
-word_field : {s : List ℕ} {r value : ℕ} → Placed s r false value → Field s r WORD value
+word_field : {s : List ℕ} {r value : ℕ} → Placed s r false value → Field s r (Refers Word) value
 unfolding is_used is_reference
-word_field p = record { unused = λ q. absurd (true≢false q); below = λ q. p.0; sort = λ q. p.1 }
+word_field p = record { unused = λ q. absurd (true≢false q); below = λ q. p.0; sort = λ q. ap Refers p.1 }
 
-array_field : {s : List ℕ} {r value : ℕ} → Placed s r true value → Field s r ARRAY value
+array_field : {s : List ℕ} {r value : ℕ} → Placed s r true value → Field s r (Refers Array) value
 unfolding is_used is_reference
-array_field p = record { unused = λ q. absurd (true≢false q); below = λ q. p.0; sort = λ q. p.1 }
+array_field p = record { unused = λ q. absurd (true≢false q); below = λ q. p.0; sort = λ q. ap Refers p.1 }
 
 -- the value in k or h, by whether the kind uses it
 record Number (M : ℕ) (used : Bool) (value : ℕ) : Type 0 where
@@ -206,7 +209,7 @@ formed_accepted s f head size formed alone is marks = record {
       (names_widen {W = Placed s r} (f r)
       (λ a y (b : Below f r a y). (
         b.below,
-        ap (λ (x : Row). sort_of x.kind) (is y (lt_trans b.below l)) ∙ sort_row (f y) ∙ ap (λ (c : Bool). cond c ARRAY WORD) b.sort,
+        ap (λ (x : Row). sort_of x.kind) (is y (lt_trans b.below l)) ∙ sort_row (f y) ∙ ap (λ (c : Bool). cond c Array Word) b.sort,
       ))
       (formed.names r))
       (ap (λ (y : ℕ). other_bounds (row_of (f r)) (row_at s y)) (own_first_row s f alone r (λ x k. is x (lt_of_le_of_lt k l))) ∙

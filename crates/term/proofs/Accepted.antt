@@ -6,15 +6,18 @@ use mathlib.Core.Path.{◌≡◌, refl, sym, ap, ◌∙◌, subst}
 use mathlib.Core.Bool.{true, false}
 use mathlib.Core.Logic.{dite}
 use mathlib.Core.List.{List}
-use lib.Dec.{eqb, lit<}
+use lib.Dec.{lit<}
 use lib.ListN.{length}
 use lib.Pow.{pow_pos}
 use Rattle.row.specs.declared.Row.{Row}
 use Rattle.row.specs.Names.{place}
 use Rattle.row.specs.Bytes.{row, row_at}
 use Rattle.table.specs.declared.Uses.{Uses}
-use Rattle.table.specs.Uses.{WORD, ARRAY, sort_of, uses_of}
-use Rattle.table.specs.Refusals.{width, rows, is_reference, use_at, reference}
+use Rattle.table.specs.declared.Sort.{Sort}
+use Rattle.table.specs.declared.Sort.TheVariants.{Word, Array}
+use Rattle.table.specs.declared.Use.TheVariants.{Refers}
+use Rattle.table.specs.Uses.{is_sort, sort_of, is_reference, uses_of}
+use Rattle.table.specs.Refusals.{width, rows, use_at, reference}
 use Rattle.table.specs.Accepted.{GoodRow, Accepted}
 use Rattle.names.specs.First.{name_at}
 use Rattle.names.proofs.First.{nameless_first}
@@ -26,13 +29,17 @@ use Rattle.term.proofs.Rows.{kind_case, good_tidy, row_term, sort_term, one_vari
 use Rattle.term.proofs.Seen.{first_row_name}
 use Rattle.term.proofs.Looked.{look_past, look_states, first_row_is}
 
-word_at : (t : List ℕ) (y : ℕ) → sort_of (row_at t y).kind ≡ WORD → is_array (look t y) ≡ false
-unfolding look
-word_at t y e = sort_term (row_at t y) ∙ ap (λ (s : ℕ). eqb s ARRAY) e
+word_at : (t : List ℕ) (y : ℕ) → sort_of (row_at t y).kind ≡ Word → is_array (look t y) ≡ false
+unfolding look is_sort
+word_at t y e = sort_term (row_at t y) ∙ ap (is_sort Array) e
 
-array_at : (t : List ℕ) (y : ℕ) → sort_of (row_at t y).kind ≡ ARRAY → is_array (look t y) ≡ true
-unfolding look
-array_at t y e = sort_term (row_at t y) ∙ ap (λ (s : ℕ). eqb s ARRAY) e
+array_at : (t : List ℕ) (y : ℕ) → sort_of (row_at t y).kind ≡ Array → is_array (look t y) ≡ true
+unfolding look is_sort
+array_at t y e = sort_term (row_at t y) ∙ ap (is_sort Array) e
+
+-- a use tells its sort
+refers_sort : {s other : Sort} → Refers s ≡ Refers other → s ≡ other
+refers_sort e = cc
 
 -- what is said of row r, which is the term u
 record Good (t : List ℕ) (r : ℕ) (u : Term) : Type 0 where
@@ -41,13 +48,13 @@ record Good (t : List ℕ) (r : ℕ) (u : Term) : Type 0 where
 
 -- a reference field that is used, as a word or as an array
 module _ (t : List ℕ) (r : ℕ) (x : Row) (u : Uses) (good : GoodRow t r x u) (f : ℕ) (l : f < 3) where
-  word_field : use_at u f ≡ WORD → Below (look t) r false (reference x f)
+  word_field : use_at u f ≡ Refers Word → Below (look t) r false (reference x f)
   unfolding is_reference
-  word_field e = record { below = good.below f l (ap is_reference e); sort = word_at t (reference x f) (good.sort f l (ap is_reference e) ∙ e) }
+  word_field e = record { below = good.below f l (ap is_reference e); sort = word_at t (reference x f) (refers_sort (good.sort f l (ap is_reference e) ∙ e)) }
 
-  array_field : use_at u f ≡ ARRAY → Below (look t) r true (reference x f)
+  array_field : use_at u f ≡ Refers Array → Below (look t) r true (reference x f)
   unfolding is_reference
-  array_field e = record { below = good.below f l (ap is_reference e); sort = array_at t (reference x f) (good.sort f l (ap is_reference e) ∙ e) }
+  array_field e = record { below = good.below f l (ap is_reference e); sort = array_at t (reference x f) (refers_sort (good.sort f l (ap is_reference e) ∙ e)) }
 
 good_term : (t : List ℕ) (r : ℕ) (x : Row) → GoodRow t r x (uses_of x.kind) → Good t r (term_of x)
 unfolding term_of uses_of use_at reference

@@ -9,22 +9,24 @@ use Rattle.range.specs.declared.Range.{Range}
 use Rattle.term.specs.declared.Relation.{Relation}
 use Rattle.term.specs.declared.Relation.TheVariants.{Same, Apart, Unknown}
 use Rattle.term.specs.Term.{Term, const, var, shift, sum, diff, neg, read, fresh, write}
-use Rattle.term.specs.Base.{Base, nothing, one, sum_of, difference, negative, base_of, written, is_nothing, same_base, base, offset, open_to, plain_of, plain}
+use Rattle.term.specs.declared.Base.{Base}
+use Rattle.term.specs.declared.Base.TheVariants.{Nothing, One, Sum, Difference, Negative}
+use Rattle.term.specs.Base.{base_of, written, is_nothing, same_base, base, offset, open_to, plain_of, plain}
 use Rattle.term.specs.Relation.{related, range_of}
 use Rattle.term.specs.Walk.{Walk, found, passed, undecided, ended, step, walk_at, walk}
 use Rattle.term.specs.Rule.{shift_rule, sum_rule, neg_by, neg_rule, diff_rule, read_by, read_rule, skip_by, skip_at, write_rule, rule}
 use Rattle.term.specs.Seen.{first_row, is_later, by_name, seen}
 use Rattle.term.specs.Result.{rule_at, simplified}
 use Rattle.term.specs.WellFormed.{Names}
-use Rattle.term.proofs.Base.{open_case}
+use Rattle.term.proofs.Bases.{open_case}
 
 -- the rows that a base names are words of U
 abbrev pub BaseIn : (Bool → ℕ → Type 0) → Base → Type 0
-BaseIn U nothing = Unit {0}
-BaseIn U (one x) = U false x
-BaseIn U (sum_of x y) = U false x × U false y
-BaseIn U (difference x y) = U false x × U false y
-BaseIn U (negative x) = U false x
+BaseIn U Nothing = Unit {0}
+BaseIn U (One x) = U false x
+BaseIn U (Sum x y) = U false x × U false y
+BaseIn U (Difference x y) = U false x × U false y
+BaseIn U (Negative x) = U false x
 
 -- the row where a walk ends, and the element that it finds, are in U
 abbrev pub WalkIn : (Bool → ℕ → Type 0) → Walk → Type 0
@@ -36,11 +38,11 @@ WalkIn U (ended m) = U true m
 module _ (U : Bool → ℕ → Type 0) where
   written_in : (d : Base) (k : ℕ) → BaseIn U d → Names U (written d k)
   unfolding written
-  written_in nothing k n = tt
-  written_in (one x) k n = n
-  written_in (sum_of x y) k n = n
-  written_in (difference x y) k n = n
-  written_in (negative x) k n = n
+  written_in Nothing k n = tt
+  written_in (One x) k n = n
+  written_in (Sum x y) k n = n
+  written_in (Difference x y) k n = n
+  written_in (Negative x) k n = n
 
   base_of_in : (x : ℕ) (t : Term) → U false x → Names U t → BaseIn U (base_of x t)
   unfolding base_of
@@ -104,18 +106,18 @@ module _ (U : Bool → ℕ → Type 0) (f : ℕ → Term) (closed : (s : Bool) (
       pick_case (Names U) (is_nothing (base f b))
       (λ (e' : is_nothing (base f b) ≡ true). shift_rule_in M a _ u)
       (λ (e' : is_nothing (base f b) ≡ false).
-      written_in U (sum_of (min (open_to f a) (open_to f b)) (max (open_to f a) (open_to f b))) _ (
+      written_in U (Sum (min (open_to f a) (open_to f b)) (max (open_to f a) (open_to f b))) _ (
         min_case (U false) (open_to f a) (open_to f b) (open_in a u) (open_in b v),
         max_case (U false) (open_to f a) (open_to f b) (open_in a u) (open_in b v),
       )))
 
   neg_by_in : (M a k p : ℕ) (d : Base) → U false a → BaseIn U d → Names U (neg_by M f a k p d)
   unfolding neg_by
-  neg_by_in M a k p nothing u n = tt
-  neg_by_in M a k p (one x) u n = written_in U (negative x) (minus M k p) n
-  neg_by_in M a k p (negative x) u n = shift_rule_in M x (minus M k p) n
-  neg_by_in M a k p (difference x y) u n = written_in U (difference y x) (minus M k p) (n.1, n.0)
-  neg_by_in M a k p (sum_of x y) u n = written_in U (negative a) k u
+  neg_by_in M a k p Nothing u n = tt
+  neg_by_in M a k p (One x) u n = written_in U (Negative x) (minus M k p) n
+  neg_by_in M a k p (Negative x) u n = shift_rule_in M x (minus M k p) n
+  neg_by_in M a k p (Difference x y) u n = written_in U (Difference y x) (minus M k p) (n.1, n.0)
+  neg_by_in M a k p (Sum x y) u n = written_in U (Negative a) k u
 
   neg_rule_in : (M a k : ℕ) → U false a → Names U (neg_rule M f a k)
   unfolding neg_rule
@@ -132,7 +134,7 @@ module _ (U : Bool → ℕ → Type 0) (f : ℕ → Term) (closed : (s : Bool) (
       (λ (e' : is_nothing (base f b) ≡ false).
       pick_case (Names U) (is_nothing (base f a))
       (λ (e'' : is_nothing (base f a) ≡ true). neg_rule_in M b _ v)
-      (λ (e'' : is_nothing (base f a) ≡ false). written_in U (difference (open_to f a) (open_to f b)) _ (open_in a u, open_in b v))))
+      (λ (e'' : is_nothing (base f a) ≡ false). written_in U (Difference (open_to f a) (open_to f b)) _ (open_in a u, open_in b v))))
 
   read_by_in : (M i : ℕ) (w : Walk) → U false i → WalkIn U w → Names U (read_by M f i w)
   unfolding read_by

@@ -1,5 +1,5 @@
 -- Laws of terms, rules and results: over lookups first, over bytes from `Rows` on.
-pub mod Base
+pub mod Bases
 pub mod Names
 pub mod Seen
 pub mod Inside

@@ -10,7 +10,9 @@ use Rattle.range.specs.Range as range
 use Rattle.term.specs.declared.Relation.{Relation}
 use Rattle.term.specs.declared.Relation.TheVariants.{Same, Apart, Unknown}
 use Rattle.term.specs.Term.{Term, const, var, shift, sum, diff, neg, read, fresh, write}
-use Rattle.term.specs.Base.{Base, nothing, one, sum_of, difference, negative, base_of, offset_of, written, base, offset, open_row, open_offset, open_to, open_by, plain_of, plain}
+use Rattle.term.specs.declared.Base.{Base}
+use Rattle.term.specs.declared.Base.TheVariants.{Nothing, One, Sum, Difference, Negative}
+use Rattle.term.specs.Base.{base_of, offset_of, written, base, offset, open_row, open_offset, open_to, open_by, plain_of, plain}
 use Rattle.term.specs.Relation.{Rests, range_by, range_down, range_of, related}
 use Rattle.term.specs.Walk.{Walk, found, passed, undecided, ended, step, walk_at, walk, compared}
 use Rattle.term.specs.Rule.{shift_rule, sum_rule, neg_by, neg_rule, diff_rule, read_by, read_rule, skip_by, skip_at, write_rule, rule}
@@ -93,11 +95,11 @@ module _
 
     neg_by_local : (M a k p : ℕ) (d : Base) → BaseIn U d → neg_by M f a k p d ≡ neg_by M f' a k p d
     unfolding neg_by
-    neg_by_local M a k p nothing n = refl
-    neg_by_local M a k p (one x) n = refl
-    neg_by_local M a k p (negative x) n = shift_rule_local M x (minus M k p) n
-    neg_by_local M a k p (difference x y) n = refl
-    neg_by_local M a k p (sum_of x y) n = refl
+    neg_by_local M a k p Nothing n = refl
+    neg_by_local M a k p (One x) n = refl
+    neg_by_local M a k p (Negative x) n = shift_rule_local M x (minus M k p) n
+    neg_by_local M a k p (Difference x y) n = refl
+    neg_by_local M a k p (Sum x y) n = refl
 
     neg_rule_local : (M a k : ℕ) → U false a → neg_rule M f a k ≡ neg_rule M f' a k
     unfolding neg_rule

@@ -15,7 +15,7 @@ use Rattle.term.specs.Term.{Term}
 use Rattle.term.specs.Base.{base, offset, same_base}
 use Rattle.term.specs.Relation.{related}
 use Rattle.term.specs.Reason.{reason, known_by}
-use Rattle.term.proofs.Base.{same_base_lem, base_same}
+use Rattle.term.proofs.Bases.{same_base_lem, base_same}
 
 -- by the outcomes of the three tests
 known_by_tests : (shared equal apart : Bool) (p q : ℕ) (ranges : Spans) →

@@ -11,9 +11,10 @@ use Rattle.basis.proofs.Pick.{test_case, pick_true, pick_false, or_left, or_righ
 use Rattle.row.specs.declared.Row.{Row}
 use Rattle.row.specs.Names.{CONST, VAR, SHIFT, SUM, DIFF, NEG, READ, FRESH, WRITE}
 use Rattle.row.specs.Bytes.{row}
-use Rattle.table.specs.Uses.{ARRAY, sort_of, uses_of}
+use Rattle.table.specs.declared.Sort.TheVariants.{Array}
+use Rattle.table.specs.Uses.{is_sort, sort_of, is_used, uses_of}
 use Rattle.names.specs.First.{name_of}
-use Rattle.table.specs.Refusals.{is_used, use_at, reference, other_bounds}
+use Rattle.table.specs.Refusals.{use_at, reference, other_bounds}
 use Rattle.table.specs.Accepted.{GoodRow}
 use Rattle.term.specs.Term.{Term, const, var, shift, sum, diff, neg, read, fresh, write, term_of, row_of, stated_by, is_read, is_array}
 
@@ -107,10 +108,10 @@ module _ {B : Type 0} (f : Term → B) (g : ℕ → B) where
       number_case Told t0 t1 t2 t3 t4 t5 t6 t7 t8 t9 (λ more a b c k h. past more) x.kind x.a x.b x.c x.k x.h
 
 -- its sort
-pub sort_term : (x : Row) → is_array (term_of x) ≡ eqb (sort_of x.kind) ARRAY
-unfolding term_of sort_of is_array
+pub sort_term : (x : Row) → is_array (term_of x) ≡ is_sort Array (sort_of x.kind)
+unfolding term_of sort_of is_sort is_array
 sort_term =
-    kind_tells is_array (λ kind. eqb (sort_of kind) ARRAY)
+    kind_tells is_array (λ kind. is_sort Array (sort_of kind))
     (λ a b c k h. refl) (λ a b c k h. refl) (λ a b c k h. refl) (λ a b c k h. refl) (λ a b c k h. refl)
     (λ a b c k h. refl) (λ a b c k h. refl) (λ a b c k h. refl) (λ a b c k h. refl) (λ a b c k h. refl)
     (λ more. rw (ne_eqb (past_kinds more) FRESH (omega arith), ne_eqb (past_kinds more) WRITE (omega arith)))

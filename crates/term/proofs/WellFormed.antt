@@ -10,7 +10,9 @@ use Rattle.word.proofs.Words.{plus_below, minus_below}
 use Rattle.range.specs.declared.Range.{Range}
 use Rattle.term.specs.Term.{Term, const, var, shift, sum, diff, neg, read, fresh, write, stated_by, is_array}
 use Rattle.term.specs.Seen.{first_row, is_later, by_name, seen}
-use Rattle.term.specs.Base.{Base, nothing, one, sum_of, difference, negative, written, is_nothing, same_base, base, offset}
+use Rattle.term.specs.declared.Base.{Base}
+use Rattle.term.specs.declared.Base.TheVariants.{Nothing, One, Sum, Difference, Negative}
+use Rattle.term.specs.Base.{written, is_nothing, same_base, base, offset}
 use Rattle.term.specs.Relation.{range_of}
 use Rattle.term.specs.Walk.{Walk, found, passed, undecided, ended, walk}
 use Rattle.term.specs.Rule.{shift_rule, sum_rule, neg_by, neg_rule, diff_rule, read_by, read_rule, write_rule, rule}
@@ -35,11 +37,11 @@ StandsFor M u t = Fits M t × (is_array t ≡ is_array u) × (stated_by t ≡ st
 module _ (M : ℕ) (pos : 0 < M) where
   written_word : (d : Base) (k : ℕ) → k < M → Word M (written d k)
   unfolding written is_array stated_by
-  written_word nothing k l = (l, refl, refl)
-  written_word (one x) k l = (l, refl, refl)
-  written_word (sum_of x y) k l = (l, refl, refl)
-  written_word (difference x y) k l = (l, refl, refl)
-  written_word (negative x) k l = (l, refl, refl)
+  written_word Nothing k l = (l, refl, refl)
+  written_word (One x) k l = (l, refl, refl)
+  written_word (Sum x y) k l = (l, refl, refl)
+  written_word (Difference x y) k l = (l, refl, refl)
+  written_word (Negative x) k l = (l, refl, refl)
 
   shift_word : (f : ℕ → Term) (a k : ℕ) → Word M (shift_rule M f a k)
   unfolding shift_rule
@@ -57,11 +59,11 @@ module _ (M : ℕ) (pos : 0 < M) where
 
   neg_by_word : (f : ℕ → Term) (a k p : ℕ) (d : Base) → k < M → Word M (neg_by M f a k p d)
   unfolding neg_by is_array stated_by
-  neg_by_word f a k p nothing l = (minus_below M pos k p, refl, refl)
-  neg_by_word f a k p (one x) l = written_word (negative x) (minus M k p) (minus_below M pos k p)
-  neg_by_word f a k p (negative x) l = shift_word f x (minus M k p)
-  neg_by_word f a k p (difference x y) l = written_word (difference y x) (minus M k p) (minus_below M pos k p)
-  neg_by_word f a k p (sum_of x y) l = written_word (negative a) k l
+  neg_by_word f a k p Nothing l = (minus_below M pos k p, refl, refl)
+  neg_by_word f a k p (One x) l = written_word (Negative x) (minus M k p) (minus_below M pos k p)
+  neg_by_word f a k p (Negative x) l = shift_word f x (minus M k p)
+  neg_by_word f a k p (Difference x y) l = written_word (Difference y x) (minus M k p) (minus_below M pos k p)
+  neg_by_word f a k p (Sum x y) l = written_word (Negative a) k l
 
   neg_word : (f : ℕ → Term) (a k : ℕ) → k < M → Word M (neg_rule M f a k)
   unfolding neg_rule

@@ -4,7 +4,9 @@ use Rattle.std.specs.Prelude.{ℕ, min, max, cond}
 use Rattle.word.specs.Word.{plus, minus}
 use Rattle.range.specs.declared.Range.{Range}
 use Rattle.term.specs.Term.{Term, const, var, shift, sum, diff, neg, read, fresh, write}
-use Rattle.term.specs.Base.{Base, nothing, one, sum_of, difference, negative, written, is_nothing, same_base, base, offset, open_to, open_by, plain}
+use Rattle.term.specs.declared.Base.{Base}
+use Rattle.term.specs.declared.Base.TheVariants.{Nothing, One, Sum, Difference, Negative}
+use Rattle.term.specs.Base.{written, is_nothing, same_base, base, offset, open_to, open_by, plain}
 use Rattle.term.specs.declared.Relation.{Relation}
 use Rattle.term.specs.declared.Relation.TheVariants.{Same, Apart, Unknown}
 use Rattle.term.specs.Relation.{related}
@@ -20,16 +22,16 @@ sum_rule M f a b k =
     cond (is_nothing (base f a)) (shift_rule M f b (plus M (offset f a) k))
     (cond (is_nothing (base f b)) (shift_rule M f a (plus M (offset f b) k))
     (written
-    (sum_of (min (open_to f a) (open_to f b)) (max (open_to f a) (open_to f b)))
+    (Sum (min (open_to f a) (open_to f b)) (max (open_to f a) (open_to f b)))
     (plus M (plus M (open_by f a) (open_by f b)) k)))
 
 -- NEG a k, where row a has the given base and offset p
 unfoldable pub neg_by : ℕ → (ℕ → Term) → ℕ → ℕ → ℕ → Base → Term
-neg_by M f a k p nothing = const (minus M k p)
-neg_by M f a k p (one x) = written (negative x) (minus M k p)
-neg_by M f a k p (negative x) = shift_rule M f x (minus M k p)
-neg_by M f a k p (difference x y) = written (difference y x) (minus M k p)
-neg_by M f a k p (sum_of x y) = written (negative a) k
+neg_by M f a k p Nothing = const (minus M k p)
+neg_by M f a k p (One x) = written (Negative x) (minus M k p)
+neg_by M f a k p (Negative x) = shift_rule M f x (minus M k p)
+neg_by M f a k p (Difference x y) = written (Difference y x) (minus M k p)
+neg_by M f a k p (Sum x y) = written (Negative a) k
 
 unfoldable pub neg_rule : ℕ → (ℕ → Term) → ℕ → ℕ → Term
 neg_rule M f a k = neg_by M f a k (offset f a) (base f a)
@@ -40,7 +42,7 @@ diff_rule M f a b k =
     cond (same_base (base f a) (base f b)) (const (plus M (minus M (offset f a) (offset f b)) k))
     (cond (is_nothing (base f b)) (shift_rule M f a (minus M k (offset f b)))
     (cond (is_nothing (base f a)) (neg_rule M f b (plus M k (offset f a)))
-    (written (difference (open_to f a) (open_to f b)) (plus M (minus M (open_by f a) (open_by f b)) k))))
+    (written (Difference (open_to f a) (open_to f b)) (plus M (minus M (open_by f a) (open_by f b)) k))))
 
 -- READ at index row i, by its walk: as SHIFT c 0 where the element c was found, else a READ of the array reached at i's plain name
 unfoldable pub read_by : ℕ → (ℕ → Term) → ℕ → Walk → Term

@@ -1,7 +1,18 @@
-// The written rules over rows as terms, and their laws. The only code is the types of what is known of two rows, and why.
+// The written rules over rows as terms, and their laws. The only code is the types of bases and of what is known of two rows, and why, and what is known
+// by a reason.
 #![tactic(auto)]
 
 use range::Range;
+
+// What the offset of a word row is added to: nothing, the word of one row, the sum of two rows, the difference of two, or a row negated.
+#[derive(Clone, Copy, PartialEq, Eq)]
+pub enum Base {
+    Nothing,
+    One(usize),
+    Sum(usize, usize),
+    Difference(usize, usize),
+    Negative(usize),
+}
 
 // What is known of two word rows: they are equal, they differ, or neither is known.
 #[derive(Clone, Copy)]
@@ -33,4 +44,22 @@ pub struct Met {
     pub store: usize,
     pub index: usize,
     pub why: Reason,
+}
+
+// What is known by a reason.
+impl From<Reason> for Relation {
+    ghost use Rattle.std.specs.Prelude.{◌≡◌};
+    ghost use Rattle.term.specs.Reason.{known_by};
+
+    ghost from_gives = { λ why known. known ≡ known_by why };
+
+    #[tactic(auto, unfolding(crate::specs::Reason::known_by))]
+    fn from(why: Reason) -> Relation {
+        match why {
+            Reason::SamePlace => Relation::Same,
+            Reason::Offsets(_, _) => Relation::Apart,
+            Reason::Separate(_) => Relation::Apart,
+            Reason::Undecided => Relation::Unknown,
+        }
+    }
 }

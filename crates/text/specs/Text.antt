@@ -3,6 +3,7 @@ use Rattle.std.specs.Prelude.{ℕ, zero, suc, ◌+◌, ◌*◌, ◌-◌, ◌/◌
 use Prim.Native.Char.{code}
 use Prim.Native.String.{String, [] as []ₛ, ◌∷◌ as ◌∷ₛ◌}
 use Rattle.std.proofs.lemmas.List.Edits.{sets}
+use Rattle.text.specs.declared.Text.{Text}
 
 -- the bytes of a quoted text
 abbrev pub ascii : String → List ℕ
@@ -34,3 +35,8 @@ pub record Put (l : List ℕ) (at : ℕ) (text : List ℕ) (most : ℕ) (m : Lis
   pub written : m ≡ sets l at text
   pub next : r ≡ at + length text
   pub few : r ≤ at + most
+
+-- the same of what is written into the slice that a text holds, which stays the one that was lent
+pub record Wrote (a : Text) (text : List ℕ) (most : ℕ) (b : Text) : Type 0 where
+  pub same : b.out.ghost_name ≡ a.out.ghost_name
+  pub put : Put a.out.now a.at text most b.out.now b.at

@@ -1,59 +1,59 @@
 // Text, written into a slice that the caller lends. What does not fit is left out and still counted, so no function
-// asks for room, and a slice of no room measures a text. Each function answers the place behind what it wrote.
+// asks for room, and a slice of no room measures a text.
 #![tactic(auto)]
 
 ghost use Rattle.std.specs.Prelude.{[], ◌∷◌, ◌+◌, ◌*◌, ◌<◌, ◌^◌, length};
-ghost use Rattle.text.specs.Text.{decimal, spaced, Put};
+ghost use Rattle.text.specs.Text.{decimal, spaced, Wrote};
 
-// Writes one byte.
-pub fn put_byte(out: &mut [u8], at: usize, b: u8) -> usize
-    requires { at + 1 < 2 ^ 64 }
-    ensures { Put out.old at (b ∷ []) 1 out.new result }
-{
-    if at >= out.len() {
-        return at + 1;
-    }
-    out[at] = b;
-    at + 1
+// A slice that a text is written into, and the place behind what is written.
+#[derive(Drop)]
+pub struct Text<'a> {
+    pub out: &'a mut [u8],
+    pub at: usize,
 }
 
-// Writes the bytes of a word.
-pub fn put_word(out: &mut [u8], at: usize, word: &[u8]) -> usize
-    requires { at < 2 ^ 63 }
-    ensures { Put out.old at word.now (length word.now) out.new result }
-{
-    let mut next = at;
-    let mut i = 0;
-    while i < word.len() {
-        next = put_byte(out, next, word[i]);
-        i += 1;
+impl Text<'_> {
+    // Writes one byte.
+    pub fn put_byte(&mut self, b: u8)
+        requires { self.old.at + 1 < 2 ^ 64 }
+        ensures { Wrote self.old (b ∷ []) 1 self.new }
+    {
+        if self.at < self.out.len() {
+            self.out[self.at] = b;
+        }
+        self.at += 1;
     }
-    next
-}
 
-// Writes a number in decimal.
-pub fn put_decimal(out: &mut [u8], at: usize, v: u64) -> usize
-    requires { at < 2 ^ 63 }
-    ensures { Put out.old at (decimal v) 20 out.new result }
-{
-    if v < 10 {
-        return put_byte(out, at, 48 + v as u8);
+    // Writes the bytes of a word.
+    pub fn put_word(&mut self, word: &[u8])
+        requires { self.old.at < 2 ^ 63 }
+        ensures { Wrote self.old word.now (length word.now) self.new }
+    {
+        for b in word {
+            self.put_byte(*b);
+        }
     }
-    let last = put_decimal(out, at, v / 10);
-    put_byte(out, last, 48 + (v % 10) as u8)
-}
 
-// Writes numbers in decimal, each with a space in front.
-pub fn put_spaced(out: &mut [u8], at: usize, numbers: &[u64]) -> usize
-    requires { at + 21 * length numbers.now < 2 ^ 63 }
-    ensures { Put out.old at (spaced numbers.now) (21 * length numbers.now) out.new result }
-{
-    let mut next = at;
-    let mut i = 0;
-    while i < numbers.len() {
-        next = put_byte(out, next, b' ');
-        next = put_decimal(out, next, numbers[i]);
-        i += 1;
+    // Writes a number in decimal.
+    pub fn put_decimal(&mut self, v: u64)
+        requires { self.old.at < 2 ^ 63 }
+        ensures { Wrote self.old (decimal v) 20 self.new }
+    {
+        if v < 10 {
+            return self.put_byte(48 + v as u8);
+        }
+        self.put_decimal(v / 10);
+        self.put_byte(48 + (v % 10) as u8);
     }
-    next
+
+    // Writes numbers in decimal, each with a space in front.
+    pub fn put_spaced(&mut self, numbers: &[u64])
+        requires { self.old.at + 21 * length numbers.now < 2 ^ 63 }
+        ensures { Wrote self.old (spaced numbers.now) (21 * length numbers.now) self.new }
+    {
+        for v in numbers {
+            self.put_byte(b' ');
+            self.put_decimal(*v);
+        }
+    }
 }

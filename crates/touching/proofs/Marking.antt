@@ -4,13 +4,14 @@ use native.Mathlib.Nat.{le_refl}
 use native.Mathlib.Omega.{arith}
 use native.Mathlib.Decide.{dec_lt}
 use mathlib.Core.Path.{◌≡◌, refl, ap, ap₂, sym, fun_ext, ◌∙◌}
-use mathlib.Core.Bool.{Bool, true, false, ◌&&◌, ◌||◌}
+use mathlib.Core.Bool.{Bool, true, false, ◌&&◌, ◌||◌, false≢true}
 use mathlib.Core.Logic.{dite}
 use mathlib.Core.List.{List}
 use lib.Dec.{eqb}
 use lib.ListN.{length}
-use borrow.Author.Tests.{eq-eqb, ne_eqb, le-leb, lt-leb}
+use borrow.Author.Tests.{eq-eqb, ne_eqb}
 use Rattle.basis.proofs.Pick.{or_none, pick_true, pick_false}
+use Rattle.basis.specs.Count.{count_where}
 use Rattle.basis.proofs.Counts.{count_same}
 use Rattle.in_bytes.specs.Numbers.{Read}
 use Rattle.row.specs.declared.Row.{Row}
@@ -20,8 +21,10 @@ use Rattle.row.proofs.Places.{room_in}
 use Rattle.row.proofs.Rows.{row_new}
 use Rattle.names.specs.First.{name_of, name_from, name_at, first_named}
 use Rattle.table.specs.declared.Uses.{Uses}
-use Rattle.table.specs.Uses.{UNUSED, NAME, WORD, uses_of}
-use Rattle.table.specs.Refusals.{MOST, rows, is_reference}
+use Rattle.table.specs.declared.Use.{Use}
+use Rattle.table.specs.declared.Use.TheVariants.{Unused, Name}
+use Rattle.table.specs.Uses.{is_reference, uses_of}
+use Rattle.table.specs.Refusals.{MOST, rows}
 use Rattle.term.specs.Term.{term_of, stated_by, any_named}
 use Rattle.term.specs.WellFormed.{Names}
 use Rattle.term.specs.Bytes.{look, edited}
@@ -30,9 +33,9 @@ use Rattle.term.proofs.Names.{NamesBelow, names_widen, any_named_local}
 use Rattle.term.proofs.WellFormed.{formed_below}
 use Rattle.term.proofs.Looked.{edited_others, look_states}
 use Rattle.term.proofs.Accepted.{accepted_formed}
-use Rattle.marks.specs.Marks.{marked, ones_of, Words, HasBit, Remarked}
+use Rattle.marks.specs.Marks.{marked, ones_of, Remarked}
 use Rattle.touching.specs.Touched.{leading, follows, touched_with, HasMark, Named, Reached, CanMark, Marked}
-use Rattle.marks.proofs.Marks.{mark_here, mark_there, ones_below}
+use Rattle.marks.proofs.Marking.{rows_below}
 use Rattle.touching.proofs.Following.{touched_told}
 
 -- ---- what a row names
@@ -65,13 +68,15 @@ record Fields (u : Uses) (x : Row) : Type 0 where
   b : HasMark u.b x.b
   c : HasMark u.c x.c
 
-unused : {x : ℕ} → HasMark UNUSED x
-unused = record { below = λ u. absurd (omega arith) }
+unused : {x : ℕ} → HasMark Unused x
+unfolding is_reference
+unused = record { below = λ u. absurd (false≢true u) }
 
-name : {x : ℕ} → HasMark NAME x
-name = record { below = λ u. absurd (omega arith) }
+name : {x : ℕ} → HasMark Name x
+unfolding is_reference
+name = record { below = λ u. absurd (false≢true u) }
 
-used : {k x : ℕ} → x < MOST → HasMark k x
+used : {k : Use} {x : ℕ} → x < MOST → HasMark k x
 used l = record { below = λ u. l }
 
 fields : (x : Row) → Named x → Fields (uses_of x.kind) x
@@ -92,18 +97,7 @@ fields x named =
     Has : ℕ → Type 0
     Has kind = (a b c k h : ℕ) → Names (λ array y. y < MOST) (term_of (row kind a b c k h)) → Fields (uses_of kind) (row kind a b c k h)
 
--- ---- the ways out
-
-pub field_bare : (kind : ℕ) (b : Bool) → kind < WORD → false ≡ (is_reference kind && b)
-unfolding is_reference
-field_bare kind b l = rw (lt-leb WORD kind l)
-
-pub field_refers : (kind : ℕ) {b c : Bool} → WORD ≤ kind → c ≡ b → c ≡ (is_reference kind && b)
-unfolding is_reference
-field_refers kind h e = rw (le-leb WORD kind h) e
-
-pub field_mark : {kind x : ℕ} → HasMark kind x → WORD ≤ kind → x < 1024
-field_mark has h = has.below h
+-- ---- what is asked of each field, and what the three tell
 
 module _ (marks : List ℕ) (x : Row) {u : Uses} (is : u ≡ uses_of x.kind) where
   module _ (named : Named x) where
@@ -116,22 +110,11 @@ module _ (marks : List ℕ) (x : Row) {u : Uses} (is : u ≡ uses_of x.kind) whe
     pub asks_c : HasMark u.c x.c
     asks_c = rw is (fields x named).c
 
-  abbrev hit : ℕ → ℕ → Bool
+  abbrev hit : Use → ℕ → Bool
   hit kind y = is_reference kind && marked marks y
 
-  names : Named x → any_named (marked marks) (term_of x) ≡ (hit u.a x.a || hit u.b x.b || hit u.c x.c)
+  pub names : Named x → any_named (marked marks) (term_of x) ≡ (hit u.a x.a || hit u.b x.b || hit u.c x.c)
   names named = any_used_lem (marked marks) x named.kind_low named.kind_high ∙ ap (λ (v : Uses). any_used (marked marks) v x) (sym is)
-
-  module _ (named : Named x) {p : Bool} (first : p ≡ hit u.a x.a) where
-    pub names_a : p ≡ true → true ≡ any_named (marked marks) (term_of x)
-    names_a e = sym (names named ∙ rw (sym first ∙ e))
-
-    module _ (missed : p ≡ false) {q : Bool} (second : q ≡ hit u.b x.b) where
-      pub names_b : q ≡ true → true ≡ any_named (marked marks) (term_of x)
-      names_b e = sym (names named ∙ rw (sym first ∙ missed, sym second ∙ e))
-
-      pub names_c : {o : Bool} → q ≡ false → o ≡ hit u.c x.c → o ≡ any_named (marked marks) (term_of x)
-      names_c e last = last ∙ sym (names named ∙ rw (sym first ∙ missed, sym second ∙ e))
 
 variable_bare : (test : ℕ → Bool) (y : Row) → y.kind ≡ VAR → any_named test (term_of y) ≡ false
 unfolding any_named term_of
@@ -212,7 +195,6 @@ module _ (T old : List ℕ) (r : ℕ) (long : length old ≡ LENGTH) where
 pub record MarkedSoFar (T old : List ℕ) (r n was is x : ℕ) (marks : List ℕ) : Type 0 where
   pub leads : Leads T old r was is
   pub some : x ≤ n
-  pub words : Words marks
   pub marks_are : (y : ℕ) → y < x → marked marks y ≡ touched_with T old r y
   pub none : (y : ℕ) → x ≤ y → y < 1024 → marked marks y ≡ false
 
@@ -244,7 +226,6 @@ module _ (T old : List ℕ) (n r : ℕ) (marks₀ : List ℕ) (can : CanMark T o
           after = e' ∙ ap (λ (name : ℕ). leading (name_at T) name r) stated'.is;
         };
         some = omega arith;
-        words = can.words;
         marks_are = λ y h. absurd (omega arith);
         none = λ y h l. can.none y l;
       }
@@ -263,8 +244,8 @@ module _ (T old : List ℕ) (n r : ℕ) (marks₀ : List ℕ) (can : CanMark T o
       }
 
   module _ {was is x : ℕ} {marks : List ℕ} (so : MarkedSoFar T old r n was is x marks) where
-    pub mark_room : x < n → HasBit marks x
-    mark_room l = record { words = so.words; below = omega (arith, few) }
+    pub mark_room : x < n → x < MOST
+    mark_room l = omega (arith, few)
 
     module _ (l : x < n) {b : Bool} (tested : b ≡ test T marks r was is x) {marks' : List ℕ} (set_is : Remarked marks x b marks') where
       told : b ≡ touched_with T old r x
@@ -276,31 +257,24 @@ module _ (T old : List ℕ) (n r : ℕ) (marks₀ : List ℕ) (can : CanMark T o
 
       set_here : marked marks' x ≡ b
       set_here =
-          ap (λ (m : List ℕ). marked m x) set_is.is ∙ mark_here marks so.words x b (omega (arith, few)) ∙
+          set_is.here ∙
           ap (λ (c : Bool). c || b) (so.none x (le_refl x) (omega (arith, few)))
-
-      set_there : (y : ℕ) → (y ≡ x → ⊥) → marked marks' y ≡ marked marks y
-      set_there y other = ap (λ (m : List ℕ). marked m y) set_is.is ∙ mark_there marks so.words x b (omega (arith, few)) y other
 
       pub marks_next : MarkedSoFar T old r n was is (x + 1) marks'
       marks_next =
           record {
             leads = so.leads;
             some = omega arith;
-            words = set_is.words;
             marks_are = λ y h.
                 dite (dec_lt y x)
-                (λ (k : y < x). set_there y (λ e. omega arith) ∙ so.marks_are y k)
+                (λ (k : y < x). set_is.there y (λ e. omega arith) ∙ so.marks_are y k)
                 (λ (k : y < x → ⊥). let same : y ≡ x = omega arith in rw same (set_here ∙ told));
-            none = λ y h k. set_there y (λ e. omega arith) ∙ so.none y (omega arith) k;
+            none = λ y h k. set_is.there y (λ e. omega arith) ∙ so.none y (omega arith) k;
           }
 
-    pub marks_words : Words marks
-    marks_words = so.words
-
     -- the ones of the words are the touched rows
-    pub marks_done : n ≤ x → {count : ℕ} → count ≡ ones_of marks 16 → Marked T old r n marks count
-    marks_done h e =
+    pub marks_done : n ≤ x → {count : ℕ} → count ≡ ones_of marks 16 → count ≡ count_where (marked marks) MOST → Marked T old r n marks count
+    marks_done h e rows =
         let same : x ≡ n = omega (arith, so.some) in
         let marks_are : (y : ℕ) → y < n → marked marks y ≡ touched_with T old r y = rw same at so.marks_are in
         let none_past : (y : ℕ) → n ≤ y → y < 1024 → marked marks y ≡ false = λ y k l. so.none y (omega arith) l in
@@ -308,5 +282,5 @@ module _ (T old : List ℕ) (n r : ℕ) (marks₀ : List ℕ) (can : CanMark T o
           marks_are = marks_are;
           none_past = none_past;
           ones_are = e;
-          counted = e ∙ ones_below marks so.words n few none_past ∙ count_same (marked marks) (touched_with T old r) n marks_are;
+          counted = rows ∙ rows_below marks n few none_past ∙ count_same (marked marks) (touched_with T old r) n marks_are;
         }

@@ -1,18 +1,19 @@
 -- Marking the rows that an edit touches. T are the bytes of the edited table, r is the row that was replaced, `old` the bytes that stood there, n the row count.
-use Rattle.std.specs.Prelude.{ℕ, ◌+◌, ◌≤◌, ◌<◌, ◌≡◌, Bool, false, cond, not, ◌&&◌, ◌||◌, List, eqb, length}
+use Rattle.std.specs.Prelude.{ℕ, ◌+◌, ◌≤◌, ◌<◌, ◌≡◌, Bool, true, false, cond, not, ◌&&◌, ◌||◌, List, eqb, length}
 use Rattle.basis.specs.Count.{count_where}
 use Rattle.row.specs.declared.Row.{Row}
 use Rattle.row.specs.Names.{LENGTH, place}
 use Rattle.row.specs.Bytes.{row_at}
 use Rattle.names.specs.First.{first_named}
-use Rattle.table.specs.Uses.{WORD}
+use Rattle.table.specs.declared.Use.{Use}
+use Rattle.table.specs.Uses.{is_reference}
 use Rattle.table.specs.Refusals.{MOST, rows}
 use Rattle.table.specs.Accepted.{Accepted}
 use Rattle.term.specs.Term.{term_of}
 use Rattle.term.specs.WellFormed.{Names}
 use Rattle.term.specs.Result.{touched_in}
 use Rattle.term.specs.Bytes.{look, edited}
-use Rattle.marks.specs.Marks.{marked, ones_of, Words}
+use Rattle.marks.specs.Marks.{marked, ones_of}
 
 -- the name where no row below r states it, so that r, which states it, is its first row; else 0; `names` tells what each row states
 unfoldable pub leading : (ℕ → ℕ) → ℕ → ℕ → ℕ
@@ -28,8 +29,8 @@ abbrev pub touched_with : List ℕ → List ℕ → ℕ → ℕ → Bool
 touched_with T old r = touched_in (look (edited T r old)) (look T) r
 
 -- a field that is used to refer to a row refers to one that has a mark
-pub record HasMark (used x : ℕ) : Type 0 where
-  pub below : WORD ≤ used → x < MOST
+pub record HasMark (used : Use) (x : ℕ) : Type 0 where
+  pub below : is_reference used ≡ true → x < MOST
 
 -- a row of some kind that names rows which have a mark
 pub record Named (x : Row) : Type 0 where
@@ -48,7 +49,6 @@ pub record CanMark (T old : List ℕ) (n r : ℕ) (marks : List ℕ) : Type 0 wh
   pub few : n ≡ rows T
   pub row : r < n
   pub long : length old ≡ LENGTH
-  pub words : Words marks
   pub none : (x : ℕ) → x < MOST → marked marks x ≡ false
 
 -- the touched rows among the first n are marked and no other row is, and there are `count`, the ones of the sixteen words

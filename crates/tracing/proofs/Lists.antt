@@ -6,6 +6,7 @@ use mathlib.Core.Path.{◌≡◌, refl, sym, ap, ◌∙◌}
 use mathlib.Core.Bool.{true, true≢false}
 use mathlib.Core.List.{List}
 use lib.ListN.{length}
+use Rattle.range.specs.declared.Range.{Range}
 use Rattle.range.specs.Store.{kept}
 use Rattle.in_bytes.specs.Numbers.{Read}
 use Rattle.row.specs.declared.Row.{Row}
@@ -21,8 +22,9 @@ use Rattle.judge.specs.Run.{LIMIT}
 use Rattle.simplify.specs.Answer.{modulus}
 use Rattle.term.specs.Term.{Term, read, term_of, is_read}
 use Rattle.term.specs.Bytes.{look}
-use Rattle.text.specs.Text.{Put}
-use Rattle.text.proofs.Puts.{put_then}
+use Rattle.text.specs.declared.Text.{Text}
+use Rattle.text.specs.Text.{Wrote}
+use Rattle.text.proofs.Puts.{wrote_then}
 use Rattle.listing.specs.List.{read_line, result_line, list, list_for, most}
 use Rattle.tracing.specs.Ready.{Telling, Listable}
 use Rattle.tracing.proofs.Steps.{lines}
@@ -39,7 +41,7 @@ read_row x =
 pub list_header : (T R : List ℕ) (r : ℕ) → Listable T R r → HEADER ≤ length T
 list_header T R r given = omega (arith, header_below r, given.room)
 
-module _ (T R S l : List ℕ) (r : ℕ) (given : Listable T R r) {x : Row} (row : Decoded T r x) where
+module _ (T R : List ℕ) (S : List Range) (from : Text) (r : ℕ) (given : Listable T R r) {x : Row} (row : Decoded T r x) where
   term_is : look T r ≡ term_of x
   unfolding look
   term_is = ap term_of (sym row.is)
@@ -64,21 +66,24 @@ module _ (T R S l : List ℕ) (r : ℕ) (given : Listable T R r) {x : Row} (row 
   pub list_result : place r + LENGTH ≤ length R
   list_result = row_room R (suc r) r given.rows (le_refl (suc r))
 
-  module _ {source : ℕ} (recorded : Read (source_at T r) (2 ^ 32) source) {m₁ : List ℕ} {next : ℕ}
-      (head : Put l 0 (read_line source r x.a x.b) 116 m₁ next) where
-    pub list_walks : {j : Index} → Sought (look R) (kept S) x.b j → Telling T R S next LIMIT r x.b j x.a
-    list_walks sought = record {
+  module _ {source : ℕ} (recorded : Read (source_at T r) (2 ^ 32) source) {begun : Text}
+      (head : Wrote from (read_line source r x.a x.b) 116 begun) where
+    pub list_walks : {j : Index} → from.at ≡ 0 → j.row ≡ x.b → Sought (look R) (kept S) j → Telling T R S begun.at LIMIT r j x.a
+    list_walks first row sought = record {
       room = given.room;
       walking = record { rows = standing; index = sought; below = names.0 };
-      sought = names.1;
-      early = omega (arith, head.few);
+      sought = rw row names.1;
+      early = omega (arith, head.put.few);
       few = le_refl LIMIT;
     }
 
-    module _ (top : ℕ) (top_is : top + 1 ≡ 2 ^ width T) {m₂ : List ℕ} {end : ℕ}
-        (walked : Put m₁ next (lines (top + 1) (look R) (kept S) (source_at T) x.b LIMIT x.a) (256 * LIMIT + 40) m₂ end) where
-      pub list_done : {y : Row} {m₃ : List ℕ} {e : ℕ} → Decoded R r y → Put m₂ end (result_line r y source) 175 m₃ e
-          → Put l 0 (list_for (modulus T) LIMIT (look R) (kept S) (source_at T) r (row_at R r) (look T r)) (most (LIMIT + 1)) m₃ e
+    module _ (top : ℕ) (top_is : top + 1 ≡ 2 ^ width T) {i : ℕ} (row_is : i ≡ x.b) {told : Text}
+        (walk_told : Wrote begun (lines (top + 1) (look R) (kept S) (source_at T) i LIMIT x.a) (256 * LIMIT + 40) told) where
+      walked : Wrote begun (lines (top + 1) (look R) (kept S) (source_at T) x.b LIMIT x.a) (256 * LIMIT + 40) told
+      walked = rw row_is at walk_told
+
+      pub list_done : {y : Row} {done : Text} → Decoded R r y → Wrote told (result_line r y source) 175 done
+          → Wrote from (list_for (modulus T) LIMIT (look R) (kept S) (source_at T) r (row_at R r) (look T r)) (most (LIMIT + 1)) done
       unfolding list_for list modulus
       list_done y_is last =
-          rw (reads, ← top_is, ← y_is.is, ← recorded.is) (put_then {i = 256 * LIMIT + 156} (put_then head walked (le_refl _)) last (omega arith))
+          rw (reads, ← top_is, ← y_is.is, ← recorded.is) (wrote_then {i = 256 * LIMIT + 156} (wrote_then head walked (le_refl _)) last (omega arith))

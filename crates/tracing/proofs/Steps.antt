@@ -23,8 +23,9 @@ use Rattle.term.specs.Bytes.{look}
 use Rattle.term.specs.Walk.{Walk, step, walk_at, walk}
 use Rattle.term.specs.Reason.{reason, known_by, index_of, meets, met}
 use Rattle.term.proofs.Reasons.{related_reason}
-use Rattle.text.specs.Text.{Put}
-use Rattle.text.proofs.Puts.{put_none, put_then, put_length}
+use Rattle.text.specs.declared.Text.{Text}
+use Rattle.text.specs.Text.{Wrote}
+use Rattle.text.proofs.Puts.{wrote_none, wrote_then}
 use Rattle.listing.specs.List.{store_line, store_lines, found_line, stands_line, end_line, walk_lines}
 use Rattle.listing.specs.Ready.{Numbered}
 use Rattle.tracing.specs.Ready.{Telling}
@@ -98,28 +99,28 @@ module _ (M : ℕ) (f : ℕ → Term) (g : ℕ → Range) (source : ℕ → ℕ)
 -- ---- the loop
 
 -- at array row n, with `compared` stores behind, whose lines are `done`
-pub record Told (M : ℕ) (T R S l : List ℕ) (at limit i m : ℕ) (r : ℕ) (now : List ℕ) (next n compared : ℕ) : Type 0 where
+pub record Told (M : ℕ) (T R : List ℕ) (S : List Range) (from : Text) (limit i m : ℕ) (r : ℕ) (now : Text) (n compared : ℕ) : Type 0 where
   pub done : List ℕ
-  pub put : Put l at done (256 * compared) now next
+  pub wrote : Wrote from done (256 * compared) now
   pub rest : done ++ lines M (look R) (kept S) (source_at T) i (limit - compared) n ≡ lines M (look R) (kept S) (source_at T) i limit m
   pub below : n < r
   pub few : compared ≤ limit
 
-module _ (M : ℕ) (T R S l : List ℕ) (at limit r i : ℕ) (j : Index) (m : ℕ) (given : Telling T R S at limit r i j m) where
+module _ (M : ℕ) (T R : List ℕ) (S : List Range) (from : Text) (limit r : ℕ) (j : Index) (m : ℕ) (given : Telling T R S from.at limit r j m) where
   abbrev text : List ℕ
-  text = lines M (look R) (kept S) (source_at T) i limit m
+  text = lines M (look R) (kept S) (source_at T) j.row limit m
 
-  pub tell_begins : Told M T R S l at limit i m r l at m 0
+  pub tell_begins : Told M T R S from limit j.row m r from m 0
   tell_begins = record {
     done = [];
-    put = put_none l at;
-    rest = ap (λ (k : ℕ). lines M (look R) (kept S) (source_at T) i k m) (omega arith);
+    wrote = wrote_none from;
+    rest = ap (λ (k : ℕ). lines M (look R) (kept S) (source_at T) j.row k m) (omega arith);
     below = given.walking.below;
     few = omega arith;
   }
 
-  module _ {now : List ℕ} {next n compared : ℕ} (inv : Told M T R S l at limit i m r now next n compared) where
-    pub tell_walks : Walking R S r i j n
+  module _ {now : Text} {n compared : ℕ} (inv : Told M T R S from limit j.row m r now n compared) where
+    pub tell_walks : Walking R S r j n
     tell_walks = record { rows = given.walking.rows; index = given.walking.index; below = inv.below }
 
     pub tell_decodes : place n + LENGTH ≤ length R
@@ -129,51 +130,40 @@ module _ (M : ℕ) (T R S l : List ℕ) (at limit r i : ℕ) (j : Index) (m : �
     unfolding place
     tell_sources = omega (arith, given.room, inv.below)
 
-    pub tell_near : next < 2 ^ 31
-    tell_near = omega (arith, inv.put.few, inv.few, given.early, given.few)
+    pub tell_near : now.at < 2 ^ 31
+    tell_near = omega (arith, inv.wrote.put.few, inv.few, given.early, given.few)
 
-    pub tell_early : next < 2 ^ 32
+    pub tell_early : now.at < 2 ^ 32
     tell_early = omega (arith, tell_near)
 
-    pub tell_length : {now' some : List ℕ} {k e : ℕ} → Put now next some k now' e → length now' ≡ length l
-    tell_length p = put_length p ∙ put_length inv.put
-
-    -- behind the line of a store, wherever it begins and whatever it says
-    module _ {now₂ store : List ℕ} {begin next₂ : ℕ} (line : Put now begin store 256 now₂ next₂) where
-      pub tell_early_2 : begin < 2 ^ 31 → next₂ < 2 ^ 32
-      tell_early_2 near = omega (arith, line.few)
-
-      pub tell_length_2 : {now' some : List ℕ} {k e : ℕ} → Put now₂ next₂ some k now' e → length now' ≡ length l
-      tell_length_2 p = put_length p ∙ put_length line ∙ put_length inv.put
-
     -- the last line
-    finish : {now' : List ℕ} {e : ℕ} (last : List ℕ) → lines M (look R) (kept S) (source_at T) i (limit - compared) n ≡ last
-        → Put now next last 40 now' e → Put l at text (256 * limit + 40) now' e
+    finish : {now' : Text} (last : List ℕ) → lines M (look R) (kept S) (source_at T) j.row (limit - compared) n ≡ last
+        → Wrote now last 40 now' → Wrote from text (256 * limit + 40) now'
     finish last e p =
         let whole : inv.done ++ last ≡ text = ap (λ (ys : List ℕ). inv.done ++ ys) (sym e) ∙ inv.rest in
-        rw (← whole) (put_then inv.put p (omega (arith, inv.few)))
+        rw (← whole) (wrote_then inv.wrote p (omega (arith, inv.few)))
 
-    pub tell_spent : {now' : List ℕ} {e : ℕ} → limit ≤ compared → Put now next (stands_line n) 40 now' e → Put l at text (256 * limit + 40) now' e
+    pub tell_spent : {now' : Text} → limit ≤ compared → Wrote now (stands_line n) 40 now' → Wrote from text (256 * limit + 40) now'
     tell_spent h p =
         let none : limit - compared ≡ 0 = omega (arith, inv.few) in
-        finish (stands_line n) (rw none (none_left M (look R) (kept S) (source_at T) i n)) p
+        finish (stands_line n) (rw none (none_left M (look R) (kept S) (source_at T) j.row n)) p
 
     module _ (more : compared < limit) {x : Row} (row : Decoded R n x) where
       left : limit - compared ≡ suc (limit - (compared + 1))
       left = omega arith
 
-      pub tell_ends : {now' : List ℕ} {e : ℕ} → (x.kind ≡ WRITE → ⊥) → Put now next (stands_line n) 40 now' e → Put l at text (256 * limit + 40) now' e
-      tell_ends h p = finish (stands_line n) (rw left (no_store_lines M (look R) (kept S) (source_at T) i (limit - (compared + 1)) n (no_store R n x row h))) p
+      pub tell_ends : {now' : Text} → (x.kind ≡ WRITE → ⊥) → Wrote now (stands_line n) 40 now' → Wrote from text (256 * limit + 40) now'
+      tell_ends h p = finish (stands_line n) (rw left (no_store_lines M (look R) (kept S) (source_at T) j.row (limit - (compared + 1)) n (no_store R n x row h))) p
 
       module _ (kind : x.kind ≡ WRITE) where
-        pub tell_compares : Comparing R S x.b i j
-        tell_compares = store_compared R n x row S r i j tell_walks kind
+        pub tell_compares : Comparing R S x.b j
+        tell_compares = store_compared R n x row S r j tell_walks kind
 
         named : NamesBelow n (write x.a x.b x.c)
         named = rw (store_at R n x row kind) at (given.walking.rows.names n inv.below)
 
         -- whatever instruction is given
-        pub tell_numbered : {why : Reason} {value source : ℕ} → Read value (2 ^ 32) source → Numbered source i (record { store = n; index = x.b; why = why })
+        pub tell_numbered : {why : Reason} {value source : ℕ} → Read value (2 ^ 32) source → Numbered source j.row (record { store = n; index = x.b; why = why })
         tell_numbered recorded = record {
           instruction = recorded.below;
           store = omega (arith, inv.below, given.walking.rows.few);
@@ -181,43 +171,43 @@ module _ (M : ℕ) (T R S l : List ℕ) (at limit r i : ℕ) (j : Index) (m : �
           sought = omega (arith, given.sought, given.walking.rows.few);
         }
 
-        module _ {why : Reason} (told : why ≡ reason (look R) (kept S) x.b i) {source : ℕ} (recorded : Read (source_at T n) (2 ^ 32) source)
-            {now₂ : List ℕ} {next₂ : ℕ} (written : Put now next (store_line M source i (record { store = n; index = x.b; why = why })) 256 now₂ next₂) where
+        module _ {why : Reason} (told : why ≡ reason (look R) (kept S) x.b j.row) {source : ℕ} (recorded : Read (source_at T n) (2 ^ 32) source)
+            {now₂ : Text} (written : Wrote now (store_line M source j.row (record { store = n; index = x.b; why = why })) 256 now₂) where
           abbrev said : List ℕ
-          said = store_line M (source_at T n) i (record { store = n; index = x.b; why = why })
+          said = store_line M (source_at T n) j.row (record { store = n; index = x.b; why = why })
 
-          line : Put now next said 256 now₂ next₂
+          line : Wrote now said 256 now₂
           line = rw (← recorded.is) written
 
           -- the store's line, and the last one
-          finish_2 : {now' : List ℕ} {e : ℕ} (last : List ℕ)
-              → lines M (look R) (kept S) (source_at T) i (suc (limit - (compared + 1))) n ≡ said ++ last
-              → Put now₂ next₂ last 40 now' e → Put l at text (256 * limit + 40) now' e
+          finish_2 : {now' : Text} (last : List ℕ)
+              → lines M (look R) (kept S) (source_at T) j.row (suc (limit - (compared + 1))) n ≡ said ++ last
+              → Wrote now₂ last 40 now' → Wrote from text (256 * limit + 40) now'
           finish_2 last e p =
               let whole : inv.done ++ said ++ last ≡ text =
               append_assoc inv.done _ last ∙ ap (λ (ys : List ℕ). inv.done ++ ys) (sym e ∙ rw left) ∙ inv.rest in
-              rw (← whole) (put_then {i = 256 * (compared + 1)} (put_then inv.put line (omega arith)) p (omega (arith, inv.few)))
+              rw (← whole) (wrote_then {i = 256 * (compared + 1)} (wrote_then inv.wrote line (omega arith)) p (omega (arith, inv.few)))
 
           module _ {k : Relation} (known : k ≡ known_by why) where
-            pub tell_finds : {now' : List ℕ} {e : ℕ} → k ≡ Same → Put now₂ next₂ (found_line x.c) 40 now' e → Put l at text (256 * limit + 40) now' e
+            pub tell_finds : {now' : Text} → k ≡ Same → Wrote now₂ (found_line x.c) 40 now' → Wrote from text (256 * limit + 40) now'
             tell_finds z p =
                 finish_2 (found_line x.c)
-                (lines_found M (look R) (kept S) (source_at T) i (limit - (compared + 1)) n x.a x.b x.c (store_at R n x row kind) why told (sym known ∙ z)) p
+                (lines_found M (look R) (kept S) (source_at T) j.row (limit - (compared + 1)) n x.a x.b x.c (store_at R n x row kind) why told (sym known ∙ z)) p
 
-            pub tell_stops : {now' : List ℕ} {e : ℕ} → k ≡ Unknown → Put now₂ next₂ (stands_line n) 40 now' e → Put l at text (256 * limit + 40) now' e
+            pub tell_stops : {now' : Text} → k ≡ Unknown → Wrote now₂ (stands_line n) 40 now' → Wrote from text (256 * limit + 40) now'
             tell_stops z p =
                 finish_2 (stands_line n)
-                (lines_stopped M (look R) (kept S) (source_at T) i (limit - (compared + 1)) n x.a x.b x.c (store_at R n x row kind) why told (sym known ∙ z)) p
+                (lines_stopped M (look R) (kept S) (source_at T) j.row (limit - (compared + 1)) n x.a x.b x.c (store_at R n x row kind) why told (sym known ∙ z)) p
 
-            pub tell_passes : k ≡ Apart → Told M T R S l at limit i m r now₂ next₂ x.a (compared + 1)
+            pub tell_passes : k ≡ Apart → Told M T R S from limit j.row m r now₂ x.a (compared + 1)
             tell_passes z = record {
               done = inv.done ++ said;
-              put = put_then inv.put line (omega arith);
+              wrote = wrote_then inv.wrote line (omega arith);
               rest =
                   append_assoc inv.done _ _ ∙
                   ap (λ (ys : List ℕ). inv.done ++ ys)
                   (sym
-                  (lines_passed M (look R) (kept S) (source_at T) i (limit - (compared + 1)) n x.a x.b x.c (store_at R n x row kind) why told (sym known ∙ z)) ∙
+                  (lines_passed M (look R) (kept S) (source_at T) j.row (limit - (compared + 1)) n x.a x.b x.c (store_at R n x row kind) why told (sym known ∙ z)) ∙
                   rw left) ∙
                   inv.rest;
               below = omega (arith, named.0, inv.below);

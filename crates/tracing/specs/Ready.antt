@@ -1,5 +1,6 @@
 -- What the functions ask of their callers. T are the bytes of a table, R those of its result, S is the store of ranges.
 use Rattle.std.specs.Prelude.{ℕ, suc, ◌+◌, ◌^◌, ◌≤◌, ◌<◌, ◌≡◌, true, List, length}
+use Rattle.range.specs.declared.Range.{Range}
 use Rattle.row.specs.Names.{LENGTH, place}
 use Rattle.table.specs.Refusals.{width}
 use Rattle.term.specs.Term.{is_read}
@@ -9,10 +10,10 @@ use Rattle.walks.specs.Ready.{NamesBelow, Standing, Walking}
 use Rattle.judge.specs.Run.{LIMIT}
 
 -- of the lines of a walk for READ row r that begins at array row m, written from `at` on
-pub record Telling (T R S : List ℕ) (at limit r i : ℕ) (j : Index) (m : ℕ) : Type 0 where
+pub record Telling (T R : List ℕ) (S : List Range) (at limit r : ℕ) (j : Index) (m : ℕ) : Type 0 where
   pub room : place r + LENGTH ≤ length T
-  pub walking : Walking R S r i j m
-  pub sought : i < r
+  pub walking : Walking R S r j m
+  pub sought : j.row < r
   pub early : at < 2 ^ 16
   pub few : limit ≤ LIMIT
 

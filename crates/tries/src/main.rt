@@ -1,7 +1,7 @@
 // Runs document 01's cases over real bytes. A line is a case, the number that the check gives, and its row.
 #![tactic(auto)]
 
-use row::Row;
+use row::{Kind, Row};
 use std::io;
 
 // The bytes of a table of one row more than the most.
@@ -132,7 +132,7 @@ fn put(t: &mut [u8; ROOM], r: usize, x: Row, source: u64) {
 // Makes every row a CONST 0, recorded at the instruction of its own number.
 fn fill(t: &mut [u8; ROOM]) {
     for r in 0..1025 {
-        put(t, r, Row::make(Row::CONST, 0, 0, 0, 0, 0), r as u64);
+        put(t, r, Row::make(Kind::Const as u8, 0, 0, 0, 0, 0), r as u64);
     }
 }
 
@@ -149,8 +149,10 @@ fn say<R: Print>(rt: &R, t: &[u8], n: usize) -> io::Result<()> {
     if t.len() < n {
         return Ok(());
     }
-    let v = scan::check(&t[..n]);
-    println!(rt; ": {} row {}", v.number, v.row)
+    match scan::check(&t[..n]) {
+        Ok(()) => println!(rt; ": 0 row 0"),
+        Err(refusal) => println!(rt; ": {} row {}", refusal.fault.number(), refusal.row),
+    }
 }
 
 fn head_case<R: Print>(rt: &R, t: &mut [u8; ROOM], c: [u64; 6]) -> io::Result<()> {
@@ -192,8 +194,8 @@ fn row_case<R: Print>(rt: &R, t: &mut [u8; ROOM], c: [u64; 10], source: u64) -> 
 
 // Every row case, recorded at instruction `source`, which is printed behind the case: it never changes what the check gives.
 fn row_cases<R: Print>(rt: &R, t: &mut [u8; ROOM], source: u64) -> io::Result<()> {
-    put(t, 0, Row::make(Row::CONST, 0, 0, 0, 1, 0), source);
-    put(t, 1, Row::make(Row::FRESH, 0, 0, 0, 0, 0), source);
+    put(t, 0, Row::make(Kind::Const as u8, 0, 0, 0, 1, 0), source);
+    put(t, 1, Row::make(Kind::Fresh as u8, 0, 0, 0, 0, 0), source);
     for c in ROWS {
         row_case(rt, t, c, source)?;
     }
@@ -220,7 +222,7 @@ fn faulty_rows<R: Print>(rt: &R, t: &mut [u8; ROOM]) -> io::Result<()> {
     put(
         t,
         1023,
-        Row::make(Row::SHIFT, 1022, 0, 0, 255, 0),
+        Row::make(Kind::Shift as u8, 1022, 0, 0, 255, 0),
         0xffff_ffff,
     );
     print!(rt; "last row names the one below")?;
@@ -228,30 +230,30 @@ fn faulty_rows<R: Print>(rt: &R, t: &mut [u8; ROOM]) -> io::Result<()> {
     put(
         t,
         1023,
-        Row::make(Row::SHIFT, 1023, 0, 0, 255, 0),
+        Row::make(Kind::Shift as u8, 1023, 0, 0, 255, 0),
         0xffff_ffff,
     );
     print!(rt; "last row names itself")?;
     say(rt, t, table::LARGEST)?;
-    put(t, 500, Row::make(Row::VAR, 0, 0, 0, 9, 8), 500);
+    put(t, 500, Row::make(Kind::Var as u8, 0, 0, 0, 9, 8), 500);
     print!(rt; "row 500 crosses its bounds too")?;
     say(rt, t, table::LARGEST)?;
-    put(t, 0, Row::make(Row::SHIFT, 0, 0, 0, 0, 0), 0);
+    put(t, 0, Row::make(Kind::Shift as u8, 0, 0, 0, 0, 0), 0);
     print!(rt; "row 0 names itself too")?;
     say(rt, t, table::LARGEST)
 }
 
 fn p1(t: &mut [u8; ROOM]) {
     head(t, 8, 9);
-    put(t, 0, Row::make(Row::VAR, 0, 0, 0, 200, 250), 0);
-    put(t, 1, Row::make(Row::FRESH, 0, 0, 0, 0, 0), 0);
-    put(t, 2, Row::make(Row::SHIFT, 0, 0, 0, 248, 0), 6);
-    put(t, 3, Row::make(Row::CONST, 0, 0, 0, 7, 0), 6);
-    put(t, 4, Row::make(Row::WRITE, 1, 2, 3, 0, 0), 6);
-    put(t, 5, Row::make(Row::SHIFT, 0, 0, 0, 224, 0), 9);
-    put(t, 6, Row::make(Row::SHIFT, 5, 0, 0, 24, 0), 9);
-    put(t, 7, Row::make(Row::READ, 4, 6, 0, 0, 0), 9);
-    put(t, 8, Row::make(Row::READ, 4, 7, 0, 0, 0), 12);
+    put(t, 0, Row::make(Kind::Var as u8, 0, 0, 0, 200, 250), 0);
+    put(t, 1, Row::make(Kind::Fresh as u8, 0, 0, 0, 0, 0), 0);
+    put(t, 2, Row::make(Kind::Shift as u8, 0, 0, 0, 248, 0), 6);
+    put(t, 3, Row::make(Kind::Const as u8, 0, 0, 0, 7, 0), 6);
+    put(t, 4, Row::make(Kind::Write as u8, 1, 2, 3, 0, 0), 6);
+    put(t, 5, Row::make(Kind::Shift as u8, 0, 0, 0, 224, 0), 9);
+    put(t, 6, Row::make(Kind::Shift as u8, 5, 0, 0, 24, 0), 9);
+    put(t, 7, Row::make(Kind::Read as u8, 4, 6, 0, 0, 0), 9);
+    put(t, 8, Row::make(Kind::Read as u8, 4, 7, 0, 0, 0), 12);
 }
 
 // P1, and the table of P3: P1 with CONST 0 for its row 1.
@@ -259,14 +261,14 @@ fn p1_and_p3<R: Print>(rt: &R, t: &mut [u8; ROOM]) -> io::Result<()> {
     p1(t);
     print!(rt; "P1")?;
     say(rt, t, Row::place(9))?;
-    put(t, 1, Row::make(Row::CONST, 0, 0, 0, 0, 0), 0);
+    put(t, 1, Row::make(Kind::Const as u8, 0, 0, 0, 0, 0), 0);
     print!(rt; "P3")?;
     say(rt, t, Row::place(9))
 }
 
 // A VAR named 7 as the last of five rows, and what the check then gives.
 fn last_row<R: Print>(rt: &R, t: &mut [u8; ROOM], k: u64, h: u64) -> io::Result<()> {
-    put(t, 4, Row::make(Row::VAR, 7, 0, 0, k, h), 0);
+    put(t, 4, Row::make(Kind::Var as u8, 7, 0, 0, k, h), 0);
     show(rt, &[k, h])?;
     say(rt, t, Row::place(5))
 }
@@ -274,17 +276,17 @@ fn last_row<R: Print>(rt: &R, t: &mut [u8; ROOM], k: u64, h: u64) -> io::Result<
 // Rows of one name: it is the first whose bounds count, also where another name, 263, has its slot. Name 0 is none.
 fn rows_of_one_name<R: Print>(rt: &R, t: &mut [u8; ROOM]) -> io::Result<()> {
     head(t, 8, 5);
-    put(t, 0, Row::make(Row::VAR, 7, 0, 0, 0, 9), 0);
-    put(t, 1, Row::make(Row::VAR, 263, 0, 0, 1, 2), 0);
-    put(t, 2, Row::make(Row::VAR, 0, 0, 0, 3, 4), 0);
-    put(t, 3, Row::make(Row::VAR, 0, 0, 0, 5, 6), 0);
+    put(t, 0, Row::make(Kind::Var as u8, 7, 0, 0, 0, 9), 0);
+    put(t, 1, Row::make(Kind::Var as u8, 263, 0, 0, 1, 2), 0);
+    put(t, 2, Row::make(Kind::Var as u8, 0, 0, 0, 3, 4), 0);
+    put(t, 3, Row::make(Kind::Var as u8, 0, 0, 0, 5, 6), 0);
     println!(rt; "the name of row 0, bounds 0 9, again with bounds")?;
     last_row(rt, t, 0, 9)?;
     last_row(rt, t, 0, 8)?;
     last_row(rt, t, 1, 9)?;
     last_row(rt, t, 9, 8)?;
     println!(rt; "row 0 a CONST")?;
-    put(t, 0, Row::make(Row::CONST, 0, 0, 0, 0, 0), 0);
+    put(t, 0, Row::make(Kind::Const as u8, 0, 0, 0, 0, 0), 0);
     last_row(rt, t, 0, 8)
 }
 

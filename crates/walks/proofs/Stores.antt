@@ -52,8 +52,8 @@ module _ (R : List ℕ) (m : ℕ) (x : Row) (row : Decoded R m x) where
   pub store_at : x.kind ≡ WRITE → look R m ≡ write x.a x.b x.c
   store_at e = term_at ∙ term_write x e
 
-  pub store_compared : (S : List ℕ) (r i : ℕ) (j : Index) → Walking R S r i j m → x.kind ≡ WRITE → Comparing R S x.b i j
-  store_compared S r i j given e =
+  pub store_compared : (S : List Range) (r : ℕ) (j : Index) → Walking R S r j m → x.kind ≡ WRITE → Comparing R S x.b j
+  store_compared S r j given e =
       let named : NamesBelow m (write x.a x.b x.c) = rw (store_at e) at (given.rows.names m given.below) in
       record {
         row = row_reached R r x.b given.rows (omega (arith, named.1, given.below));
@@ -62,7 +62,7 @@ module _ (R : List ℕ) (m : ℕ) (x : Row) (row : Decoded R m x) where
 
 -- ---- the array row m as the store has it
 
-module _ (R S : List ℕ) (r i : ℕ) (j : Index) (m : ℕ) (given : Walking R S r i j m) (follow : Following R S r m) (x : Range) (loaded : x ≡ kept S m) where
+module _ (R : List ℕ) (S : List Range) (r : ℕ) (j : Index) (m : ℕ) (given : Walking R S r j m) (follow : Following R S r m) (x : Range) (loaded : x ≡ kept S m) where
   word : (t : Term) → look R m ≡ t → is_array t ≡ false → ⊥
   word t e w = true≢false (sym follow.array ∙ ap is_array e ∙ w)
 
@@ -83,7 +83,7 @@ module _ (R S : List ℕ) (r i : ℕ) (j : Index) (m : ℕ) (given : Walking R S
     has_index = ap (λ (u : Range). u.hi) (loaded ∙ follow.links.stores m a b c given.below e)
 
   -- no row where row m is no store
-  ends_at : (g : ℕ → Range) (t : Term) → look R m ≡ t → MOST ≤ x.lo → End ≡ step_at (look R) g i t
+  ends_at : (g : ℕ → Range) (t : Term) → look R m ≡ t → MOST ≤ x.lo → End ≡ step_at (look R) g j.row t
   unfolding step_at
   ends_at g (const k) e h = refl
   ends_at g (var name k u) e h = refl
@@ -96,7 +96,7 @@ module _ (R S : List ℕ) (r i : ℕ) (j : Index) (m : ℕ) (given : Walking R S
   ends_at g (write a b c) e h =
       absurd (omega (arith, has_array a b c e, (named a b c e).0, given.below, given.rows.few))
 
-  pub step_ends : (g : ℕ → Range) → MOST ≤ x.lo → End ≡ step_at (look R) g i (look R m)
+  pub step_ends : (g : ℕ → Range) → MOST ≤ x.lo → End ≡ step_at (look R) g j.row (look R m)
   step_ends g h = ends_at g (look R m) refl h
 
   -- else row m is the store that it has
@@ -120,7 +120,7 @@ module _ (R S : List ℕ) (r i : ℕ) (j : Index) (m : ℕ) (given : Walking R S
     unfolding element
     store_is = (store_of (look R m) refl l).1
 
-    pub step_compared : Comparing R S x.hi i j
+    pub step_compared : Comparing R S x.hi j
     step_compared =
         record {
           row = row_reached R r x.hi given.rows (omega (arith, (named x.lo x.hi element store_is).1, given.below));
@@ -137,19 +137,19 @@ module _ (R S : List ℕ) (r i : ℕ) (j : Index) (m : ℕ) (given : Walking R S
         (λ (t : eqb y.kind WRITE ≡ false).
         absurd (subst NoStore store_is (no_store R m y d (eqb-false y.kind WRITE t))))
 
-    module _ (g : ℕ → Range) (k : Relation) (known : k ≡ related (look R) g x.hi i) where
-      step_by_lem : (s : Relation) → k ≡ s → step_at (look R) g i (look R m) ≡ step_by x.lo element s
+    module _ (g : ℕ → Range) (k : Relation) (known : k ≡ related (look R) g x.hi j.row) where
+      step_by_lem : (s : Relation) → k ≡ s → step_at (look R) g j.row (look R m) ≡ step_by x.lo element s
       unfolding step_at
-      step_by_lem s e = ap (step_at (look R) g i) store_is ∙ ap (step_by x.lo element) (sym known ∙ e)
+      step_by_lem s e = ap (step_at (look R) g j.row) store_is ∙ ap (step_by x.lo element) (sym known ∙ e)
 
-      pub step_same : (y : Row) → Decoded R m y → k ≡ Same → Hit y.c ≡ step_at (look R) g i (look R m)
+      pub step_same : (y : Row) → Decoded R m y → k ≡ Same → Hit y.c ≡ step_at (look R) g j.row (look R m)
       unfolding step_by
       step_same y d e = ap Hit (element_is y d) ∙ sym (step_by_lem Same e)
 
-      pub step_apart : k ≡ Apart → Next x.lo ≡ step_at (look R) g i (look R m)
+      pub step_apart : k ≡ Apart → Next x.lo ≡ step_at (look R) g j.row (look R m)
       unfolding step_by
       step_apart e = sym (step_by_lem Apart e)
 
-      pub step_unknown : k ≡ Unknown → Stay ≡ step_at (look R) g i (look R m)
+      pub step_unknown : k ≡ Unknown → Stay ≡ step_at (look R) g j.row (look R m)
       unfolding step_by
       step_unknown e = sym (step_by_lem Unknown e)

@@ -1,33 +1,16 @@
 -- The term of a row, by its kind. Assumes nothing.
-use Prim.Native.Nat.{ℕ, zero, suc, ◌≤◌, ◌<◌}
+use Prim.Native.Nat.{ℕ, zero, suc, ◌<◌}
 use mathlib.Core.Path.{◌≡◌, refl}
-use native.Mathlib.Omega.{arith}
 use mathlib.Core.List.{List, [], ◌∷◌}
+use mathlib.Core.Logic.{inl, inr}
 use lib.ListN.{get_or, get_or-eq_default}
 use Rattle.row.specs.declared.Row.{Row}
 use Rattle.row.specs.Names.{CONST, VAR, SHIFT, SUM, DIFF, NEG, READ, FRESH, WRITE}
+use Rattle.row.specs.Kinds.{StatesNone}
 use Rattle.term.specs.Term.{Term, const, var, shift, sum, diff, neg, read, fresh, write, term_of}
 
 terms : Row → List Term
 terms x = const 0 ∷ const x.k ∷ var x.a x.k x.h ∷ shift x.a x.k ∷ sum x.a x.b x.k ∷ diff x.a x.b x.k ∷ neg x.a x.k ∷ read x.a x.b ∷ fresh ∷ write x.a x.b x.c ∷ []
-
--- what the last arm of a match over the nine kinds and 0 knows
-abbrev pub NoKind : ℕ → Type 0
-NoKind n =
-    (((((((((Unit {0} × (n ≡ 1 → ⊥)) × (n ≡ 2 → ⊥)) × (n ≡ 3 → ⊥)) × (n ≡ 4 → ⊥)) × (n ≡ 5 → ⊥)) × (n ≡ 6 → ⊥)) × (n ≡ 7 → ⊥)) × (n ≡ 8 → ⊥)) × (n ≡ 9 → ⊥)) × (n ≡ 0 → ⊥)
-
-past_nine : (n : ℕ) → NoKind n → 10 ≤ n
-past_nine n none =
-    let a : 1 ≤ n = omega (arith, none.1) in
-    let b : 2 ≤ n = omega (arith, none.0.0.0.0.0.0.0.0.0.1) in
-    let c : 3 ≤ n = omega (arith, none.0.0.0.0.0.0.0.0.1) in
-    let d : 4 ≤ n = omega (arith, none.0.0.0.0.0.0.0.1) in
-    let e : 5 ≤ n = omega (arith, none.0.0.0.0.0.0.1) in
-    let f : 6 ≤ n = omega (arith, none.0.0.0.0.0.1) in
-    let g : 7 ≤ n = omega (arith, none.0.0.0.0.1) in
-    let h : 8 ≤ n = omega (arith, none.0.0.0.1) in
-    let i : 9 ≤ n = omega (arith, none.0.0.1) in
-    omega (arith, none.0.1)
 
 module _ (x : Row) where
   pub term_const : x.kind ≡ CONST → term_of x ≡ const x.k
@@ -75,8 +58,9 @@ module _ (x : Row) where
   unfolding term_of terms
   term_beyond h = get_or-eq_default (terms x) (const 0) h
 
-  pub term_past : NoKind x.kind → term_of x ≡ const 0
-  term_past h = term_beyond (past_nine x.kind h)
+  pub term_none : StatesNone x.kind → term_of x ≡ const 0
+  term_none (inl e) = term_zero e
+  term_none (inr h) = term_beyond h
 
 -- ---- what holds of each of a row's terms holds of its term
 

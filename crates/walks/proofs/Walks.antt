@@ -138,61 +138,62 @@ abbrev pub after : ℕ → Walked → Walked
 after number v = walked v.landing (number + v.compared)
 
 -- at array row n, with `compared` stores behind
-pub record Onward (R S : List ℕ) (limit r i m n compared : ℕ) : Type 0 where
+pub record Onward (R : List ℕ) (S : List Range) (limit r i m n compared : ℕ) : Type 0 where
   pub rest : after compared (walked_by (walk (look R) (kept S) i (limit - compared) n)) ≡ walked_by (walk (look R) (kept S) i limit m)
   pub below : n < r
   pub array : is_array (look R n) ≡ true
   pub few : compared ≤ limit
 
-module _ (R S : List ℕ) (limit r i : ℕ) (j : Index) (m : ℕ) (given : Walking R S r i j m) (follow : Following R S r m) where
-  pub walk_begins : Onward R S limit r i m m 0
+module _ (R : List ℕ) (S : List Range) (limit r : ℕ) (j : Index) (m : ℕ) (given : Walking R S r j m) (follow : Following R S r m) where
+  pub walk_begins : Onward R S limit r j.row m m 0
   walk_begins =
       record {
-        rest = ap (walked _) (omega arith) ∙ ap (λ (k : ℕ). walked_by (walk (look R) (kept S) i k m)) (omega arith);
+        rest = ap (walked _) (omega arith) ∙ ap (λ (k : ℕ). walked_by (walk (look R) (kept S) j.row k m)) (omega arith);
         below = given.below;
         array = follow.array;
         few = omega arith;
       }
 
-  module _ (n compared : ℕ) (inv : Onward R S limit r i m n compared) where
-    pub walk_at_lem : Walking R S r i j n
+  module _ (n compared : ℕ) (inv : Onward R S limit r j.row m n compared) where
+    pub walk_at_lem : Walking R S r j n
     walk_at_lem = record { rows = given.rows; index = given.index; below = inv.below }
 
     pub walk_follows : Following R S r n
     walk_follows = record { links = follow.links; sorted = follow.sorted; array = inv.array }
 
-    pub walk_spent : {v : Walked} → limit ≤ compared → v ≡ walked (Stopped n) compared → v ≡ walked_by (walk (look R) (kept S) i limit m)
+    pub walk_spent : {v : Walked} → limit ≤ compared → v ≡ walked (Stopped n) limit → v ≡ walked_by (walk (look R) (kept S) j.row limit m)
     walk_spent h e =
         let none : limit - compared ≡ 0 = omega (arith, inv.few) in
-        e ∙ ap (walked (Stopped n)) (sym (add-zero compared)) ∙ ap (after compared) (sym (walk_none (look R) (kept S) i n)) ∙ rw none at inv.rest
+        let all : limit ≡ compared = omega (arith, inv.few) in
+        e ∙ ap (walked (Stopped n)) (all ∙ sym (add-zero compared)) ∙ ap (after compared) (sym (walk_none (look R) (kept S) j.row n)) ∙ rw none at inv.rest
 
-    module _ (s : Step) (more : compared < limit) (told : s ≡ step_at (look R) (kept S) i (look R n)) where
-      one_more : after compared (walk_by n (λ a. walked_by (walk (look R) (kept S) i (limit - (compared + 1)) a)) s) ≡ walked_by (walk (look R) (kept S) i limit m)
+    module _ (s : Step) (more : compared < limit) (told : s ≡ step_at (look R) (kept S) j.row (look R n)) where
+      one_more : after compared (walk_by n (λ a. walked_by (walk (look R) (kept S) j.row (limit - (compared + 1)) a)) s) ≡ walked_by (walk (look R) (kept S) j.row limit m)
       one_more =
           let left : limit - compared ≡ suc (limit - (compared + 1)) = omega arith in
-          rw (← (rw left at inv.rest), told) (ap (after compared) (sym (walk_step (look R) (kept S) i (limit - (compared + 1)) n)))
+          rw (← (rw left at inv.rest), told) (ap (after compared) (sym (walk_step (look R) (kept S) j.row (limit - (compared + 1)) n)))
 
-      pub walk_hits : (c : ℕ) {v : Walked} → s ≡ Hit c → v ≡ walked (Found c) (compared + 1) → v ≡ walked_by (walk (look R) (kept S) i limit m)
+      pub walk_hits : (c : ℕ) {v : Walked} → s ≡ Hit c → v ≡ walked (Found c) (compared + 1) → v ≡ walked_by (walk (look R) (kept S) j.row limit m)
       unfolding walk_by
       walk_hits c e k = k ∙ rw e at one_more
 
-      pub walk_stays : {v : Walked} → s ≡ Stay → v ≡ walked (Stopped n) (compared + 1) → v ≡ walked_by (walk (look R) (kept S) i limit m)
+      pub walk_stays : {v : Walked} → s ≡ Stay → v ≡ walked (Stopped n) (compared + 1) → v ≡ walked_by (walk (look R) (kept S) j.row limit m)
       unfolding walk_by
       walk_stays e k = k ∙ rw e at one_more
 
-      pub walk_ends : {v : Walked} → s ≡ End → v ≡ walked (Stopped n) compared → v ≡ walked_by (walk (look R) (kept S) i limit m)
+      pub walk_ends : {v : Walked} → s ≡ End → v ≡ walked (Stopped n) compared → v ≡ walked_by (walk (look R) (kept S) j.row limit m)
       unfolding walk_by
       walk_ends e k = k ∙ ap (walked (Stopped n)) (sym (add-zero compared)) ∙ rw e at one_more
 
       next_below : (a : ℕ) → s ≡ Next a → a < n
       next_below a e =
-          rw (sym told ∙ e) at (step_below (look R) (kept S) i n (look R n) (given.rows.names n inv.below))
+          rw (sym told ∙ e) at (step_below (look R) (kept S) j.row n (look R n) (given.rows.names n inv.below))
 
       next_array : (a : ℕ) → s ≡ Next a → is_array (look R a) ≡ true
       next_array a e =
-          rw (sym told ∙ e) at (step_array (look R) (kept S) i (look R n) (follow.sorted.sorts n inv.below))
+          rw (sym told ∙ e) at (step_array (look R) (kept S) j.row (look R n) (follow.sorted.sorts n inv.below))
 
-      pub walk_goes_on : (a : ℕ) → s ≡ Next a → Onward R S limit r i m a (compared + 1)
+      pub walk_goes_on : (a : ℕ) → s ≡ Next a → Onward R S limit r j.row m a (compared + 1)
       unfolding walk_by
       walk_goes_on a e =
           record {

@@ -3,10 +3,11 @@ ghost use Rattle.std.specs.Prelude.{◌≡◌};
 ghost use Rattle.range.specs.Store.{kept};
 ghost use Rattle.term.specs.Bytes.{look};
 ghost use Rattle.term.specs.Walk.{walk};
-ghost use Rattle.walks.specs.Walked.{step_at, walked, walked_by};
+ghost use Rattle.walks.specs.Walked.{step_at, walked_by};
 ghost use Rattle.walks.specs.Ready.{Walking, Following};
 
 use super::relation::{Index, related};
+use range::Store;
 use row::Row;
 use term::Relation;
 
@@ -34,58 +35,56 @@ pub struct Walked {
     pub compared: usize,
 }
 
-impl Walked {
-    fn make(landing: Landing, compared: usize) -> Walked
-        ensures { result ≡ walked landing compared }
-    {
-        Walked {
-            landing: landing,
-            compared: compared,
-        }
-    }
-}
-
 // One step, at array row m. The store has what it asks of that row, so that the next step waits for one load; where row m itself stands takes three sums more.
-fn step_at(res: &[u8], store: &[u64; 2048], r: usize, i: usize, j: Index, m: usize) -> Step
-    requires walking { Walking res.now store.now r i j m }
+#[inline(always)]
+fn step_at(res: &[u8], store: &Store, r: usize, j: Index, m: usize) -> Step
+    requires walking { Walking res.now store.now r j m }
     requires following { Following res.now store.now r m }
-    ensures { result ≡ step_at (look res.now) (kept store.now) i (look res.now m) }
+    ensures { result ≡ step_at (look res.now) (kept store.now) j.row (look res.now m) }
 {
-    let x = range::load(store, m);
+    let x = store.load(m);
     if x.lo >= table::MOST as u64 {
         return Step::End;
     }
-    match related(res, store, x.hi as usize, i, j) {
+    match related(res, store, x.hi as usize, j) {
         Relation::Same => Step::Hit(Row::decode(res, m).c),
         Relation::Apart => Step::Next(x.lo as usize),
         Relation::Unknown => Step::Stay,
     }
 }
 
-// The walk for index row i from array row m on. It compares at most `limit` stores.
-pub fn walk(
-    res: &[u8],
-    store: &[u64; 2048],
-    limit: usize,
-    r: usize,
-    i: usize,
-    j: Index,
-    m: usize,
-) -> Walked
-    requires walking { Walking res.now store.now r i j m }
+// The walk for the index j from array row m on. It compares at most `limit` stores.
+pub fn walk(res: &[u8], store: &Store, limit: usize, r: usize, j: Index, m: usize) -> Walked
+    requires walking { Walking res.now store.now r j m }
     requires following { Following res.now store.now r m }
-    ensures { result ≡ walked_by (walk (look res.now) (kept store.now) i limit m) }
+    ensures { result ≡ walked_by (walk (look res.now) (kept store.now) j.row limit m) }
 {
     let mut n = m;
-    let mut compared = 0;
-    while compared < limit {
-        match step_at(res, store, r, i, j, n) {
-            Step::Hit(c) => return Walked::make(Landing::Found(c), compared + 1),
+    for compared in 0..limit {
+        match step_at(res, store, r, j, n) {
+            Step::Hit(c) => {
+                return Walked {
+                    landing: Landing::Found(c),
+                    compared: compared + 1,
+                };
+            }
             Step::Next(a) => n = a,
-            Step::Stay => return Walked::make(Landing::Stopped(n), compared + 1),
-            Step::End => return Walked::make(Landing::Stopped(n), compared),
+            Step::Stay => {
+                return Walked {
+                    landing: Landing::Stopped(n),
+                    compared: compared + 1,
+                };
+            }
+            Step::End => {
+                return Walked {
+                    landing: Landing::Stopped(n),
+                    compared,
+                };
+            }
         }
-        compared += 1;
     }
-    Walked::make(Landing::Stopped(n), compared)
+    Walked {
+        landing: Landing::Stopped(n),
+        compared: limit,
+    }
 }

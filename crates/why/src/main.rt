@@ -2,7 +2,6 @@
 // the list of that read's walk (docs/WHY.md), or why it is refused.
 #![tactic(auto)]
 
-use argument::Parsed;
 use printing::{print, print_refusal};
 use std::io;
 use std::rt::Env;
@@ -22,13 +21,13 @@ fn explain<R: Input + Print>(rt: &R, row: u64) -> io::Result<()> {
     if answer.refusal != 0 {
         return print_refusal(rt, answer.refusal, answer.row);
     }
-    print(rt, &list, listing.length as usize)
+    print(rt, &list[..listing.length as usize])
 }
 
 // The row number that the only argument gives. The program's name is counted too.
-fn row_asked<R: Env>(rt: &R) -> Parsed {
+fn row_asked<R: Env>(rt: &R) -> Option<u64> {
     if argument::count(rt) != 2 {
-        return Parsed::Nothing;
+        return None;
     }
     argument::number_at(rt, 1)
 }
@@ -39,7 +38,7 @@ fn print_use<R: Print>(rt: &R) -> io::Result<()> {
 
 fn main(rt: HostRuntime) -> io::Result<()> {
     match row_asked(&rt) {
-        Parsed::Number(row) => explain(&rt, row),
-        Parsed::Nothing => print_use(&rt),
+        Some(row) => explain(&rt, row),
+        None => print_use(&rt),
     }
 }

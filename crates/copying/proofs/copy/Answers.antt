@@ -1,5 +1,5 @@
-use Rattle.copying.proofs.Copied.{one_more}
+use Rattle.copying.proofs.Copied.{part_copied}
 use Rattle.copying.proofs.copy.Goals as goal
 
-pub loop-i-preserved : goal.loop-i-preserved
-loop-i-preserved c = search one_more
+pub returns : goal.returns
+returns c = part_copied c.requires c.copy_from_slice.ensures.after

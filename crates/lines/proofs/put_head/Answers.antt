@@ -1,5 +1,8 @@
-use Rattle.lines.proofs.Printed.{head_put}
+use native.Mathlib.Omega.{arith}
+use Rattle.text.proofs.Puts.{put_capped}
+use Rattle.lines.specs.Lines.{head}
 use Rattle.lines.proofs.put_head.Goals as goal
 
 pub returns : goal.returns
-returns c = search head_put
+unfolding head
+returns c = put_capped c.put_pair.ensures (omega arith)

@@ -1,13 +1,13 @@
 use native.Mathlib.Omega.{arith}
 use Rattle.row.specs.Names.{place}
-use Rattle.text.proofs.Puts.{put_none}
+use Rattle.text.proofs.Puts.{wrote_none}
 use Rattle.lines.specs.Lines.{lines}
 use Rattle.lines.proofs.Printed.{lines_more}
 use Rattle.lines.proofs.put_lines.Goals as goal
 
 pub loop-i-init : goal.loop-i-init
 unfolding lines
-loop-i-init c = (put_none _ _, omega arith)
+loop-i-init c = search wrote_none
 
 pub overflow_add-r : goal.overflow_add-r
 unfolding place
@@ -22,4 +22,4 @@ unfolding place
 source_at-requires c = omega arith
 
 pub loop-i-preserved : goal.loop-i-preserved
-loop-i-preserved c = (search lines_more, omega arith)
+loop-i-preserved c = search lines_more

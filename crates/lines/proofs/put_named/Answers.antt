@@ -1,5 +1,8 @@
-use Rattle.lines.proofs.Printed.{named_put}
+use native.Mathlib.Nat.{le_refl}
+use Rattle.text.proofs.Puts.{wrote_then}
+use Rattle.lines.specs.Lines.{named}
 use Rattle.lines.proofs.put_named.Goals as goal
 
 pub returns : goal.returns
-returns c = search named_put
+unfolding named
+returns c = wrote_then c.put_word.ensures c.put_spaced.ensures (le_refl _)

@@ -1,5 +1,6 @@
-use Rattle.reasons.proofs.Written.{labelled_put}
+use native.Mathlib.Nat.{le_refl}
+use Rattle.text.proofs.Puts.{wrote_then}
 use Rattle.reasons.proofs.put_labelled.Goals as goal
 
 pub returns : goal.returns
-returns c = search labelled_put
+returns c = wrote_then c.put_word.ensures c.put_decimal.ensures (le_refl _)

@@ -3,4 +3,4 @@ use Rattle.table.proofs.rows_of.Goals as goal
 
 pub returns : goal.returns
 unfolding rows
-returns c = c.two.ensures
+returns c = c.number.ensures

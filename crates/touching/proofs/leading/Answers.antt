@@ -4,5 +4,5 @@ use Rattle.touching.proofs.leading.Goals as goal
 pub returns-then-search-r : goal.returns-then-search-r
 returns-then-search-r c = search leads_it
 
-pub returns : goal.returns
-returns c = search leads_none
+pub returns-else-search-r : goal.returns-else-search-r
+returns-else-search-r c = search leads_none

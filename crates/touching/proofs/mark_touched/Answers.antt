@@ -10,11 +10,11 @@ stated_at-requires c = search r_there
 pub leading-is-requires : goal.leading-is-requires
 leading-is-requires c = search before_r_there
 
-pub touches-requires : goal.touches-requires
-touches-requires c = search mark_reached
+pub touches-touched-requires : goal.touches-touched-requires
+touches-touched-requires c = search mark_reached
 
 pub loop-x-preserved : goal.loop-x-preserved
-loop-x-preserved c = search (marks_next, c.mark_if.ensures, c.touches.ensures)
+loop-x-preserved c = search (marks_next, c.mark_if.ensures, c.touches-touched.ensures)
 
 pub returns : goal.returns
 returns c = search marks_done

@@ -1,8 +1,9 @@
+use Rattle.row.proofs.States.{is_of, is_other}
 use Rattle.touching.proofs.Marking.{touches_variable, touches_named}
 use Rattle.touching.proofs.touches.Goals as goal
 
-pub returns-then-y-eq-VAR : goal.returns-then-y-eq-VAR
-returns-then-y-eq-VAR c = search touches_variable
+pub returns-then-is : goal.returns-then-is
+returns-then-is c = search (touches_variable, is_of c.is.ensures c.if-is.true)
 
 pub returns : goal.returns
-returns c = search touches_named
+returns c = search (touches_named, is_other c.is.ensures c.if-is.false)

@@ -15,7 +15,7 @@ pub copy-requires-then-list-length : goal.copy-requires-then-list-length
 copy-requires-then-list-length c = explain_back _ _ _ c.requires c.fresh-counts.ensures c.put_list-length.ensures (replicate LARGEST 0) (length-replicate {A = ℕ} LARGEST 0) c.copy.ensures (omega arith)
 
 pub returns-then-list-length : goal.returns-then-list-length
-returns-then-list-length c = explain_short _ _ _ c.requires c.fresh-counts.ensures c.put_list-length.ensures (replicate LARGEST 0) (length-replicate {A = ℕ} LARGEST 0) c.copy.ensures c.if-list-length.true c.copy-then-list-length.ensures c.not_listed.ensures
+returns-then-list-length c = explain_short _ _ _ c.requires c.fresh-counts.ensures c.put_list-length.ensures (replicate LARGEST 0) (length-replicate {A = ℕ} LARGEST 0) c.copy.ensures c.if-list-length.true c.copy-then-list-length.ensures (rw c.into.ensures at c.not_listed.ensures)
 
 pub put_list-requires : goal.put_list-requires
 put_list-requires c = explain_lists _ _ _ c.requires c.fresh-counts.ensures

@@ -13,8 +13,8 @@ is_array-requires c = search sort_place_kept
 pub is_array-requires-in-loop-x : goal.is_array-requires-in-loop-x
 is_array-requires-in-loop-x c = search sort_place
 
-pub returns-then-differ : goal.returns-then-differ
-returns-then-differ c = search sorts_differ
+pub returns-then-is_array : goal.returns-then-is_array
+returns-then-is_array c = search sorts_differ
 
 pub loop-x-preserved : goal.loop-x-preserved
 loop-x-preserved c = search sorts_next

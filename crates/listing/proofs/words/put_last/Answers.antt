@@ -1,5 +1,6 @@
-use Rattle.listing.proofs.Written.{last_put}
+use native.Mathlib.Omega.{arith}
+use Rattle.text.proofs.Puts.{wrote_then}
 use Rattle.listing.proofs.words.put_last.Goals as goal
 
 pub returns : goal.returns
-returns c = search last_put
+returns c = wrote_then c.put_labelled.ensures c.put_byte.ensures (omega arith)

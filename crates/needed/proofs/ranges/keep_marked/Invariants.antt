@@ -1,9 +1,9 @@
-use Prim.Native.Nat.{◌-◌}
+use Prim.Native.Nat.{◌+◌, ◌*◌}
 use Rattle.needed.specs.Needed.{Keeping}
 use Rattle.needed.proofs.ranges.keep_marked.Given as goal
 
-abbrev pub invariant-loop-r : goal.invariant-loop-r
-invariant-loop-r l = Keeping l.res l.marks l.w l.r l.store
+abbrev pub invariant-loop-word : goal.invariant-loop-word
+invariant-loop-word l = Keeping l.res l.marks l.w (64 * l.word) l.store
 
-abbrev pub decreases-loop-r : goal.decreases-loop-r
-decreases-loop-r l = 1024 - l.r
+abbrev pub invariant-loop-bit : goal.invariant-loop-bit
+invariant-loop-bit l = Keeping l.res l.marks l.w (64 * l.word + l.bit) l.store

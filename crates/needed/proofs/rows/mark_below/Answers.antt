@@ -1,23 +1,23 @@
-use Rattle.needed.proofs.Marking.{below_low, below_high, below_asks, below_shift, below_neg, below_asks_second, below_two}
+use Rattle.needed.proofs.Marking.{below_no_kind, below_none, below_asks, below_one, below_asks_first, below_asks_second, below_two}
 use Rattle.needed.proofs.rows.mark_below.Goals as goal
 
-pub returns-then-x-lt-SHIFT : goal.returns-then-x-lt-SHIFT
-returns-then-x-lt-SHIFT c = search below_low
-
-pub returns-then-x-gt-NEG : goal.returns-then-x-gt-NEG
-returns-then-x-gt-NEG c = search below_high
+pub returns-in_default : goal.returns-in_default
+returns-in_default c = search (below_no_kind, c.in_default.ensures)
 
 pub mark_if-requires : goal.mark_if-requires
-mark_if-requires c = search below_asks
+mark_if-requires c = search (below_asks, c.in-Some.ensures)
 
-pub returns-then-x-eq-SHIFT : goal.returns-then-x-eq-SHIFT
-returns-then-x-eq-SHIFT c = search below_shift
+pub mark_if-requires-in-Sum : goal.mark_if-requires-in-Sum
+mark_if-requires-in-Sum c = search (below_asks_first, c.in-Some.ensures)
 
-pub returns-then-x-eq-NEG : goal.returns-then-x-eq-NEG
-returns-then-x-eq-NEG c = search below_neg
+pub mark_if-requires-in-Sum-2 : goal.mark_if-requires-in-Sum-2
+mark_if-requires-in-Sum-2 c = search (below_asks_second, c.in-Some.ensures)
 
-pub mark_if-requires-2 : goal.mark_if-requires-2
-mark_if-requires-2 c = search below_asks_second
+pub returns-in-Shift : goal.returns-in-Shift
+returns-in-Shift c = search (below_one, c.in-Some.ensures)
 
-pub returns : goal.returns
-returns c = search below_two
+pub returns-in-Sum : goal.returns-in-Sum
+returns-in-Sum c = search (below_two, c.in-Some.ensures)
+
+pub returns-in_default-kind : goal.returns-in_default-kind
+returns-in_default-kind c = search (below_none, c.in-Some.ensures)

@@ -5,7 +5,7 @@ pub returns-then-same_base : goal.returns-then-same_base
 returns-then-same_base c = search why_shared
 
 pub keep_two-requires-clause-blank : goal.keep_two-requires-clause-blank
-keep_two-requires-clause-blank c = search blank
+keep_two-requires-clause-blank c = rw c.new-store.ensures (blank c.args.w)
 
 pub returns : goal.returns
 returns c = search why_kept

@@ -1,45 +1,45 @@
-use Rattle.rules.proofs.RowRanges.{asks_shift, asks_sum, asks_diff, asks_neg, entry_const, entry_var, entry_shift, entry_sum, entry_diff, entry_neg, entry_read, entry_fresh, entry_write, entry_zero, entry_past}
+use Rattle.rules.proofs.RowRanges.{asks_shift, asks_sum, asks_diff, asks_neg, entry_const, entry_var, entry_shift, entry_sum, entry_diff, entry_neg, entry_read, entry_fresh, entry_write, entry_none}
 use Rattle.rules.proofs.ranges.entry_of.Goals as goal
-use Rattle.rules.proofs.ranges.entry_of.Goals.{in-0-1, in_default-1}
+use Rattle.row.proofs.States.{states_const, states_var, states_shift, states_sum, states_diff, states_neg, states_read, states_fresh, states_write}
 
 pub shifted_range-requires : goal.shifted_range-requires
-shifted_range-requires c = search asks_shift
+shifted_range-requires c = search (asks_shift, states_shift c.in-Some-Shift.ensures c.in-Some-Shift.field-0-is)
 
 pub sum_range-requires : goal.sum_range-requires
-sum_range-requires c = search asks_sum
+sum_range-requires c = search (asks_sum, states_sum c.in-Some-Sum.ensures c.in-Some-Sum.field-0-is)
 
 pub difference_range-requires : goal.difference_range-requires
-difference_range-requires c = search asks_diff
+difference_range-requires c = search (asks_diff, states_diff c.in-Some-Diff.ensures c.in-Some-Diff.field-0-is)
 
 pub negated_range-requires : goal.negated_range-requires
-negated_range-requires c = search asks_neg
+negated_range-requires c = search (asks_neg, states_neg c.in-Some-Neg.ensures c.in-Some-Neg.field-0-is)
 
-pub returns-in-1 : goal.returns-in-1
-returns-in-1 c = search entry_const
+pub returns-in-Some-Const : goal.returns-in-Some-Const
+returns-in-Some-Const c = search (entry_const, states_const c.in-Some-Const.ensures c.in-Some-Const.field-0-is)
 
-pub returns-in-2 : goal.returns-in-2
-returns-in-2 c = search entry_var
+pub returns-in-Some-Var : goal.returns-in-Some-Var
+returns-in-Some-Var c = search (entry_var, states_var c.in-Some-Var.ensures c.in-Some-Var.field-0-is)
 
-pub returns-in-3 : goal.returns-in-3
-returns-in-3 c = search entry_shift
+pub returns-in-Some-Shift : goal.returns-in-Some-Shift
+returns-in-Some-Shift c = search (entry_shift, states_shift c.in-Some-Shift.ensures c.in-Some-Shift.field-0-is)
 
-pub returns-in-4 : goal.returns-in-4
-returns-in-4 c = search entry_sum
+pub returns-in-Some-Sum : goal.returns-in-Some-Sum
+returns-in-Some-Sum c = search (entry_sum, states_sum c.in-Some-Sum.ensures c.in-Some-Sum.field-0-is)
 
-pub returns-in-5 : goal.returns-in-5
-returns-in-5 c = search entry_diff
+pub returns-in-Some-Diff : goal.returns-in-Some-Diff
+returns-in-Some-Diff c = search (entry_diff, states_diff c.in-Some-Diff.ensures c.in-Some-Diff.field-0-is)
 
-pub returns-in-6 : goal.returns-in-6
-returns-in-6 c = search entry_neg
+pub returns-in-Some-Neg : goal.returns-in-Some-Neg
+returns-in-Some-Neg c = search (entry_neg, states_neg c.in-Some-Neg.ensures c.in-Some-Neg.field-0-is)
 
-pub returns-in-7 : goal.returns-in-7
-returns-in-7 c = search entry_read
+pub returns-in-Some-Read : goal.returns-in-Some-Read
+returns-in-Some-Read c = search (entry_read, states_read c.in-Some-Read.ensures c.in-Some-Read.field-0-is)
 
-pub returns-in-8 : goal.returns-in-8
-returns-in-8 c = search entry_fresh
+pub returns-in-Some-Fresh : goal.returns-in-Some-Fresh
+returns-in-Some-Fresh c = search (entry_fresh, states_fresh c.in-Some-Fresh.ensures c.in-Some-Fresh.field-0-is)
 
-pub returns-in-9 : goal.returns-in-9
-returns-in-9 c = search entry_write
+pub returns-in-Some-Write : goal.returns-in-Some-Write
+returns-in-Some-Write c = search (entry_write, states_write c.in-Some-Write.ensures c.in-Some-Write.field-0-is)
 
-pub returns-in-0 : goal.returns-in-0
-returns-in-0 c = elim c.in-0-1.branch [ in-0-1 w ↦ search entry_zero | in_default-1 w ↦ search entry_past ]
+pub returns-in-None : goal.returns-in-None
+returns-in-None c = entry_none _ _ _ _ c.in-None.ensures c.of_word-in-None.ensures

@@ -2,11 +2,11 @@ use native.Mathlib.Omega.{arith}
 use Rattle.show.proofs.Limits.{limit_above, limit_within, no_limit}
 use Rattle.show.proofs.limit.within.Goals as goal
 
+pub returns-in_err-limit : goal.returns-in_err-limit
+returns-in_err-limit c = rw c.from_residual.ensures (no_limit _ c.in_err-limit.was)
+
 pub returns-then-limit : goal.returns-then-limit
-returns-then-limit c = limit_above _ _ c.in-Number.is (omega arith)
+returns-then-limit c = limit_above _ _ c.in_ok-limit.was (omega arith)
 
-pub returns-else-limit : goal.returns-else-limit
-returns-else-limit c = search limit_within
-
-pub returns-in-Nothing : goal.returns-in-Nothing
-returns-in-Nothing c = search no_limit
+pub returns : goal.returns
+returns c = limit_within _ _ c.in_ok-limit.was (omega arith)

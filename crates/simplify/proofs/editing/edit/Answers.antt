@@ -1,27 +1,34 @@
 use native.Mathlib.Omega.{arith}
+use mathlib.Core.Path.{refl}
+use Rattle.table.proofs.Told.{fault_some}
 use Rattle.simplify.proofs.Edits.{edit_refused_lem, take_asks, put_asks, judge_asks, back_asks, edited_refused, edit_few, edit_patches, edit_done}
 use Rattle.simplify.proofs.editing.edit.Goals as goal
 
-pub returns-then-number-ne0 : goal.returns-then-number-ne0
-returns-then-number-ne0 c = search edit_refused_lem
+pub returns-in-Err : goal.returns-in-Err
+returns-in-Err c = edit_refused_lem _ _ _ _ _ c.in-Err.ensures (fault_some _) (rw c.from.ensures at c.into.ensures)
 
 pub take_row-requires : goal.take_row-requires
-take_row-requires c = search take_asks
+take_row-requires c = take_asks _ _ _ _ _ c.in_default.ensures refl
 
 pub put_row-requires : goal.put_row-requires
-put_row-requires c = search put_asks
+put_row-requires c = put_asks _ _ _ _ _ c.in_default.ensures refl
 
-pub with_kept-verdict-requires : goal.with_kept-verdict-requires
-with_kept-verdict-requires c = search judge_asks
+pub with_kept-requires : goal.with_kept-requires
+with_kept-requires c = judge_asks _ _ _ _ _ c.in_default.ensures refl c.put_row.ensures
 
-pub put_row-requires-then-verdict-ne0 : goal.put_row-requires-then-verdict-ne0
-put_row-requires-then-verdict-ne0 c = search back_asks
+pub put_row-requires-in-Err-with_kept : goal.put_row-requires-in-Err-with_kept
+put_row-requires-in-Err-with_kept c = back_asks _ _ _ _ _ c.in_default.ensures refl c.put_row.ensures c.take_row.ensures
 
-pub returns-then-verdict-ne0 : goal.returns-then-verdict-ne0
-returns-then-verdict-ne0 c = search edited_refused
+pub returns-in-Err-with_kept : goal.returns-in-Err-with_kept
+returns-in-Err-with_kept c =
+    edited_refused _ _ _ _ _ c.in_default.ensures refl c.put_row.ensures c.take_row.ensures c.in-Err-with_kept.ensures (fault_some _)
+    c.put_row-in-Err-with_kept.ensures c.into-in-Err-with_kept.ensures
 
 pub patch-requires : goal.patch-requires
-patch-requires c = edit_patches _ _ _ _ _ c.edit-number.ensures c.if-number-ne0.false c.put_row.ensures c.take_row.ensures c.with_kept-verdict.ensures c.if-verdict-ne0.false (omega (arith, edit_few _ _ _ _ _ c.edit-number.ensures c.if-number-ne0.false))
+patch-requires c =
+    edit_patches _ _ _ _ _ c.in_default.ensures refl c.put_row.ensures c.take_row.ensures c.in_default-with_kept.ensures refl
+    (omega (arith, edit_few _ _ _ _ _ c.in_default.ensures refl))
 
 pub returns : goal.returns
-returns c = edit_done _ _ _ _ _ c.edit-number.ensures c.if-number-ne0.false c.put_row.ensures c.take_row.ensures c.with_kept-verdict.ensures c.if-verdict-ne0.false c.patch.ensures
+returns c =
+    edit_done _ _ _ _ _ c.in_default.ensures refl c.put_row.ensures c.take_row.ensures c.in_default-with_kept.ensures refl c.patch.ensures

@@ -1,16 +1,21 @@
-use native.Mathlib.Nat.{le_refl}
+use native.Mathlib.Omega.{arith}
 use lib.ListN.{length-replicate}
+use Rattle.range.specs.Range.{point}
+use mathlib.Core.Path.{refl}
+use Rattle.table.proofs.Told.{fault_some}
 use Rattle.simplify.proofs.FreshRun.{run_refused_lem, run_few, run_asks, run_header, run_done}
 use Rattle.simplify.proofs.running.run.Goals as goal
 
-pub returns-then-verdict-ne0 : goal.returns-then-verdict-ne0
-returns-then-verdict-ne0 c = search run_refused_lem
+pub returns-in-Err : goal.returns-in-Err
+returns-in-Err c = run_refused_lem _ _ _ c.in-Err.ensures (fault_some _) c.into.ensures
 
 pub fresh-counts-requires : goal.fresh-counts-requires
-fresh-counts-requires c = search (run_asks, length-replicate, run_few, le_refl)
+fresh-counts-requires c =
+    rw c.new-store.ensures
+    (run_asks _ _ _ c.in_default.ensures _ (length-replicate 1024 (point 0)) refl (omega (arith, run_few _ _ _ c.in_default.ensures refl)))
 
 pub rows_of-requires : goal.rows_of-requires
-rows_of-requires c = search run_header
+rows_of-requires c = run_header _ _ _ c.in_default.ensures refl
 
 pub returns : goal.returns
-returns c = search run_done
+returns c = run_done _ _ _ c.in_default.ensures refl c.fresh-counts.ensures c.rows_of.ensures

@@ -1,11 +1,12 @@
-use Rattle.walks.proofs.Values.{value_var, value_const, value_none}
+use Rattle.row.proofs.States.{is_of, is_other}
+use Rattle.walks.proofs.Values.{value_var, value_const, value_zero}
 use Rattle.walks.proofs.value.value_below.Goals as goal
 
-pub returns-then-x-eq-VAR : goal.returns-then-x-eq-VAR
-returns-then-x-eq-VAR c = search value_var
+pub returns-then-is : goal.returns-then-is
+returns-then-is c = search (value_var, is_of c.is.ensures c.if-is.true)
 
-pub returns-then-x-eq-CONST : goal.returns-then-x-eq-CONST
-returns-then-x-eq-CONST c = search value_const
+pub returns-then-is-2 : goal.returns-then-is-2
+returns-then-is-2 c = search (value_const, is_of c.is-2.ensures c.if-is-2.true)
 
 pub returns : goal.returns
-returns c = search value_none
+returns c = search (value_zero, is_other c.is.ensures c.if-is.false, is_other c.is-2.ensures c.if-is-2.false)

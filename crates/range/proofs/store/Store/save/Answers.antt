@@ -1,0 +1,8 @@
+use Rattle.std.proofs.Common.{ap, List}
+use Rattle.range.specs.declared.Range.{Range}
+use Rattle.range.specs.Store.{keep}
+use Rattle.range.proofs.store.Store.save.Goals as goal
+
+pub returns : goal.returns
+unfolding keep
+returns c = ap (λ (s : List Range). keep s c.args.r c.args.a) c.self.view_is

@@ -1,5 +1,0 @@
-use Rattle.word.proofs.Mask.{wrapped_difference}
-use Rattle.word.proofs.sub.Goals as goal
-
-pub returns : goal.returns
-returns c = search wrapped_difference
