@@ -1,12 +1,13 @@
 -- Numbers and their bytes: what the code reads and writes piece by piece, and that either gives back the other.
-use Prim.Native.Nat.{ℕ, zero, suc, ◌+◌, ◌-◌, ◌*◌, ◌/◌, ◌%◌, ◌^◌, ◌<◌, ◌≤◌}
-use native.Mathlib.Nat.{add-zero, pow-succ', pow-le-pow_right, zero-add, suc-add}
+use Prim.Native.Nat.{ℕ, zero, suc, ◌+◌, ◌*◌, ◌/◌, ◌%◌, ◌^◌, ◌<◌, ◌≤◌}
+use native.Mathlib.Nat.{add-zero, pow-succ', pow-le-pow_right, zero-add, suc-add, mul_left_comm, mul-le-mul, mod-eq_of_lt, add_comm}
 use native.Mathlib.Numerals.{add-one, one-add}
 use native.Mathlib.Omega.{arith}
 use mathlib.Core.Path.{◌≡◌, refl, ap, ap₂}
 use mathlib.Core.List.{List, [], ◌∷◌, ◌++◌}
 use lib.ListN.{length, take, drop, set}
 use lib.Seq.{sets, drop-cons}
+use Rattle.std.specs.Int.Bits.{bit_or, or_shifted_r}
 use Rattle.basis.proofs.Sets.{sets_then}
 use Rattle.in_bytes.specs.Numbers.{byte, number, bytes, AllBytes, Read}
 
@@ -44,31 +45,42 @@ unfolding number
 number_below zero t i = omega arith
 number_below (suc n) t i = rw pow-succ' (omega (arith, number_below n t (i + 1)))
 
--- ---- read from the highest of n bytes down: what the bytes from k on give
+-- ---- read from the lowest of n bytes up: what the first k of them give
 
-pub down_begins : (n : ℕ) (t : List ℕ) (i : ℕ) → 0 ≡ number (n - n) t (i + n)
+number_ends : (k : ℕ) (t : List ℕ) (i : ℕ) → number (suc k) t i ≡ number k t i + byte t (i + k) % 256 * 256 ^ k
 unfolding number
-down_begins n t i = let none : n - n ≡ 0 = omega arith in rw none
+number_ends zero t i = let here : i + 0 ≡ i = omega arith in rw here (omega arith)
+number_ends (suc k) t i =
+    let next : i + 1 + k ≡ i + suc k = omega arith in
+    let rest : number (suc k) t (i + 1) ≡ number k t (i + 1) + byte t (i + suc k) % 256 * 256 ^ k = rw (← next) (number_ends k t (i + 1)) in
+    let weight : byte t (i + suc k) % 256 * 256 ^ suc k ≡ 256 * (byte t (i + suc k) % 256 * 256 ^ k) = rw pow-succ' (mul_left_comm (byte t (i + suc k) % 256) 256 (256 ^ k)) in
+    omega (arith, rest, weight)
 
-module _ (n : ℕ) (t : List ℕ) (i k v : ℕ) (above : v ≡ number (n - k) t (i + k)) (some : 0 < k) (within : k ≤ n) where
-  pub down_goes_on : (b : ℕ) → b ≡ byte t (i + (k - 1)) → b < 256 → 256 * v + b ≡ number (n - (k - 1)) t (i + (k - 1))
-  unfolding number
-  down_goes_on b is small =
-      let more : n - (k - 1) ≡ suc (n - k) = omega arith in
-      let next : i + (k - 1) + 1 ≡ i + k = omega arith in
-      rw (more, next, ← above, ← is) (omega arith)
+powers : (k : ℕ) → 2 ^ (8 * k) ≡ 256 ^ k
+powers zero = refl
+powers (suc k) =
+    let more : 8 * suc k ≡ suc (suc (suc (suc (suc (suc (suc (suc (8 * k)))))))) = omega arith in
+    rw more (simp pow-succ' (omega (arith, powers k)))
 
-  pub down_fits : n ≤ 8 → v < 2 ^ 56
-  down_fits few =
-      let high : 256 ^ (n - k) ≤ 256 ^ 7 = pow-le-pow_right (omega arith) {i = n - k} {j = 7} (omega arith) in
-      omega (arith, number_below (n - k) t (i + k))
+pub read_begins : (t : List ℕ) (i : ℕ) → 0 ≡ number 0 t i
+unfolding number
+read_begins t i = refl
 
-pub down_ends : (n : ℕ) (t : List ℕ) (i k v : ℕ) → v ≡ number (n - k) t (i + k) → k ≤ 0 → Read (number n t i) (256 ^ n) v
-down_ends n t i k v is none =
-    let all : n - k ≡ n = omega arith in
-    let first : i + k ≡ i = omega arith in
-    let whole : v ≡ number n t i = rw (all, first) at is in
-    record { is = whole; below = rw whole (number_below n t i) }
+module _ (n : ℕ) (t : List ℕ) (i k v b : ℕ) (few : n ≤ 8) (some : k < n) (before : v ≡ number k t i) (is : b ≡ byte t (i + k)) (small : b < 256) where
+  whole : b * 2 ^ (8 * k) % 18446744073709551616 ≡ b * 2 ^ (8 * k)
+  whole =
+      let most : 256 ^ k ≤ 256 ^ 7 = pow-le-pow_right (omega arith) {i = k} {j = 7} (omega arith) in
+      let low : b * 256 ^ k ≤ 255 * 256 ^ 7 = mul-le-mul {n₁ = b} {m₁ = 256 ^ k} {n₂ = 255} {m₂ = 256 ^ 7} (omega arith) most in
+      rw (powers k) (mod-eq_of_lt (omega arith))
+
+  pub read_goes_on : bit_or v (b * 2 ^ (8 * k) % 18446744073709551616) ≡ number (k + 1) t i
+  read_goes_on =
+      let behind : v < 2 ^ (8 * k) = rw (before, powers k) (number_below k t i) in
+      let low : b % 256 ≡ b = omega arith in
+      rw (whole, or_shifted_r b (8 * k) v behind, powers k, add-one, number_ends k t i, ← is, low, ← before) (add_comm (b * 256 ^ k) v)
+
+pub read_ends : (n : ℕ) (t : List ℕ) (i k v : ℕ) → v ≡ number k t i → k ≡ n → Read (number n t i) (256 ^ n) v
+read_ends n t i k v is all = let whole : v ≡ number n t i = rw (← all) is in record { is = whole; below = rw whole (number_below n t i) }
 
 -- the bytes of the number that stands somewhere are those that stand there
 pub bytes_number : (n : ℕ) (t : List ℕ) (i : ℕ) → AllBytes t → i + n ≤ length t → bytes n (number n t i) ≡ take n (drop i t)
@@ -88,6 +100,10 @@ bytes_parts : (m n v : ℕ) → bytes (m + n) v ≡ bytes m v ++ bytes n (behind
 unfolding bytes behind
 bytes_parts zero n v = rw zero-add
 bytes_parts (suc m) n v = rw suc-add (ap (λ (l : List ℕ). v % 256 ∷ l) (bytes_parts m n (v / 256)))
+
+-- a number is written in two parts, the lower first
+pub parts_put : (m n : ℕ) (l : List ℕ) (i v : ℕ) {p q : List ℕ} → p ≡ sets l i (bytes m v) → q ≡ sets p (i + m) (bytes n (behind m v)) → q ≡ sets l i (bytes (m + n) v)
+parts_put m n l i v first second = rw (bytes_parts m n v) (sets_then l i m (bytes m v) (bytes n (behind m v)) first second (length_bytes m v))
 
 -- a number is written from its lowest byte up
 behind_next : (k v : ℕ) → behind (k + 1) v ≡ behind k v / 256

@@ -13,16 +13,16 @@ pub fn byte(t: &[u8], i: usize) -> u64
     t[i] as u64
 }
 
-// The number in the N bytes from i on.
-#[tactic(auto, using(crate::proofs::Numbers::down_begins, crate::proofs::Numbers::down_goes_on, crate::proofs::Numbers::down_fits, crate::proofs::Numbers::down_ends))]
+// The number in the N bytes from i on, from the lowest byte up: bytes that are shifted and joined are compiled to one load.
+#[tactic(auto, using(crate::proofs::Numbers::read_begins, crate::proofs::Numbers::read_ends))]
 pub fn number<const N: usize>(t: &[u8], i: usize) -> u64
     requires fits { N ≤ 8 }
     requires room { i + N ≤ length t.now }
     ensures { Read (number N t.now i) (256 ^ N) result }
 {
     let mut v = 0;
-    for k in (0..N).rev() {
-        v = 256 * v + byte(t, i + k);
+    for k in 0..N {
+        v |= byte(t, i + k) << (8 * k);
     }
     v
 }
