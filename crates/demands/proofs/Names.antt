@@ -15,8 +15,7 @@ use Rattle.table.proofs.Accepts.{accepted_gives}
 use Rattle.range.specs.declared.Range.{Range}
 use Rattle.term.specs.Term.{Term, const, shift, diff, row_of, stated_by}
 use Rattle.term.specs.Seen.{first_row, is_later, seen}
-use Rattle.term.specs.declared.Base.TheVariants.{One}
-use Rattle.term.specs.Base.{base_of, offset_of, base, offset}
+use Rattle.term.specs.Base.{One, base_of, offset_of, base, offset}
 use Rattle.term.specs.Relation.{range_of}
 use Rattle.term.specs.Rule.{diff_rule, rule}
 use Rattle.term.specs.Result.{rule_at, simplified}

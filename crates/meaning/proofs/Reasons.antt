@@ -10,9 +10,7 @@ use Rattle.term.specs.declared.Reason.{Reason}
 use Rattle.term.specs.declared.Reason.TheVariants.{SamePlace, Offsets, Separate, Undecided}
 use Rattle.term.specs.declared.Spans.{Spans}
 use Rattle.term.specs.Term.{Term}
-use Rattle.term.specs.declared.Base.{Base}
-use Rattle.term.specs.declared.Base.TheVariants.{Nothing, One, Sum, Difference, Negative}
-use Rattle.term.specs.Base.{base, offset}
+use Rattle.term.specs.Base.{Base, Nothing, One, Sum, Difference, Negative, base, offset}
 use Rattle.term.specs.Walk.{Walk}
 use Rattle.term.specs.Reason.{reason, known_by, index_of, meets, met}
 use Rattle.term.proofs.Reasons.{Grounds, related_reason, reason_grounds}

@@ -6,9 +6,7 @@ use Rattle.word.specs.Word.{plus, minus}
 use Rattle.word.proofs.Words.{differences, same_difference, plus_comm, plus_zero}
 use Rattle.term.specs.Term.{Term, const, var, shift, sum, diff, neg, read, fresh, write}
 use Rattle.term.specs.WellFormed.{Fits}
-use Rattle.term.specs.declared.Base.{Base}
-use Rattle.term.specs.declared.Base.TheVariants.{Nothing, One, Sum, Difference, Negative}
-use Rattle.term.specs.Base.{base_of, offset_of, written, base, offset}
+use Rattle.term.specs.Base.{Base, Nothing, One, Sum, Difference, Negative, base_of, offset_of, written, base, offset}
 use Rattle.meaning.specs.Meaning.{Choice, Meaning, word_of, meaning_by}
 use Rattle.meaning.proofs.Model.{Holds, Model}
 

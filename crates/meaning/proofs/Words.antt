@@ -10,9 +10,7 @@ use Rattle.basis.proofs.Pick.{pick_case}
 use Rattle.word.specs.Word.{plus, minus}
 use Rattle.word.proofs.Words.{differences, same_difference, plus_below, minus_below, plus_comm, plus_assoc, plus_zero}
 use Rattle.term.specs.Term.{Term}
-use Rattle.term.specs.declared.Base.{Base}
-use Rattle.term.specs.declared.Base.TheVariants.{Nothing, One, Sum, Difference, Negative}
-use Rattle.term.specs.Base.{written, is_nothing, same_base, base, offset, open_to, open_by}
+use Rattle.term.specs.Base.{Base, Nothing, One, Sum, Difference, Negative, written, is_nothing, same_base, base, offset, open_to, open_by}
 use Rattle.term.specs.Rule.{shift_rule, sum_rule, neg_by, neg_rule, diff_rule}
 use Rattle.term.proofs.Bases.{same_base_lem, is_nothing_lem, open_case}
 use Rattle.meaning.specs.Meaning.{Choice, Meaning, word_of}

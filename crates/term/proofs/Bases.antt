@@ -1,38 +1,43 @@
 -- Bases: the tests on them say what they are named after, and what a row opens to in each case.
 use Prim.Native.Nat.{ℕ}
-use mathlib.Core.Path.{◌≡◌, refl, ap, ap₂, subst}
-use mathlib.Core.Bool.{true, false≢true}
+use mathlib.Core.Path.{◌≡◌, refl, sym, ◌∙◌, subst}
+use mathlib.Core.Bool.{true, ◌&&◌, false≢true}
+use mathlib.Core.List.{[], ◌∷◌}
 use lib.Dec.{eqb}
+use lib.ListN.{get_or}
 use borrow.Author.Tests.{eqb-true, eq-eqb}
 use Rattle.basis.proofs.Pick.{and_left, and_right}
-use Rattle.term.specs.contracts.BasePartialEq.TheImpl as derived
 use Rattle.term.specs.Term.{Term}
-use Rattle.term.specs.declared.Base.{Base}
-use Rattle.term.specs.declared.Base.TheVariants.{Nothing, One, Sum, Difference, Negative}
-use Rattle.term.specs.Base.{same_base, is_nothing, base, offset, open_row, open_offset, open_to, open_by}
+use Rattle.term.specs.Base.{Base, Nothing, One, Sum, Difference, Negative, shape_of, left_of, right_of, same_base, is_nothing, base, offset, open_row, open_offset, open_to, open_by}
+
+-- the base of a shape that names x and y
+base_by : ℕ → ℕ → ℕ → Base
+base_by shape x y = get_or (Nothing ∷ Nothing ∷ Nothing ∷ One x ∷ Sum x y ∷ Difference x y ∷ Negative x ∷ []) shape Nothing
+
+base_by_lem : (d : Base) → base_by (shape_of d) (left_of d) (right_of d) ≡ d
+unfolding base_by shape_of left_of right_of
+base_by_lem Nothing = refl
+base_by_lem (One x) = refl
+base_by_lem (Sum x y) = refl
+base_by_lem (Difference x y) = refl
+base_by_lem (Negative x) = refl
 
 pub same_base_lem : (d e : Base) → same_base d e ≡ true → d ≡ e
 unfolding same_base
-same_base_lem Nothing Nothing h = refl
-same_base_lem (One x) (One y) h = ap One (eqb-true x y h)
-same_base_lem (Sum x y) (Sum u v) h = ap₂ Sum (eqb-true x u (and_left _ _ h)) (eqb-true y v (and_right (eqb x u) _ h))
-same_base_lem (Difference x y) (Difference u v) h = ap₂ Difference (eqb-true x u (and_left _ _ h)) (eqb-true y v (and_right (eqb x u) _ h))
-same_base_lem (Negative x) (Negative y) h = ap Negative (eqb-true x y h)
-same_base_lem _ _ h = absurd (false≢true h)
-
-same_itself : (d : Base) → same_base d d ≡ true
-unfolding same_base
-same_itself Nothing = refl
-same_itself (One x) = eq-eqb x x refl
-same_itself (Sum x y) = rw (eq-eqb x x refl, eq-eqb y y refl)
-same_itself (Difference x y) = rw (eq-eqb x x refl, eq-eqb y y refl)
-same_itself (Negative x) = eq-eqb x x refl
+same_base_lem d e h =
+    let shape : shape_of d ≡ shape_of e = eqb-true (shape_of d) (shape_of e) (and_left _ _ (and_left _ _ h)) in
+    let left : left_of d ≡ left_of e = eqb-true (left_of d) (left_of e) (and_right (eqb (shape_of d) (shape_of e)) _ (and_left _ _ h)) in
+    let right : right_of d ≡ right_of e = eqb-true (right_of d) (right_of e) (and_right (eqb (shape_of d) (shape_of e) && eqb (left_of d) (left_of e)) _ h) in
+    sym (base_by_lem d) ∙ (λ i. base_by (shape i) (left i) (right i)) ∙ base_by_lem e
 
 pub base_same : (d e : Base) → d ≡ e → same_base d e ≡ true
-base_same d e h = subst (λ (e' : Base). same_base d e' ≡ true) h (same_itself d)
+unfolding same_base
+base_same d e h =
+    subst (λ (e' : Base). same_base d e' ≡ true) h
+    (rw (eq-eqb (shape_of d) (shape_of d) refl, eq-eqb (left_of d) (left_of d) refl, eq-eqb (right_of d) (right_of d) refl))
 
 pub is_nothing_lem : (d : Base) → is_nothing d ≡ true → d ≡ Nothing
-unfolding is_nothing
+unfolding is_nothing shape_of
 is_nothing_lem Nothing h = refl
 is_nothing_lem (One x) h = absurd (false≢true h)
 is_nothing_lem (Sum x y) h = absurd (false≢true h)
@@ -51,13 +56,3 @@ open_case P f x opened itself = go (base f x) refl
     go (Sum y z) e = itself
     go (Difference y z) e = itself
     go (Negative y) e = itself
-
--- the derived comparison of bases says whether they agree
-pub derived_same : (d e : Base) → derived.eq-value.it d e ≡ same_base d e
-unfolding same_base
-derived_same Nothing Nothing = refl
-derived_same (One x) (One y) = refl
-derived_same (Sum x y) (Sum u v) = refl
-derived_same (Difference x y) (Difference u v) = refl
-derived_same (Negative x) (Negative y) = refl
-derived_same _ _ = refl

@@ -9,9 +9,7 @@ use Rattle.range.specs.declared.Range.{Range}
 use Rattle.term.specs.declared.Relation.{Relation}
 use Rattle.term.specs.declared.Relation.TheVariants.{Same, Apart, Unknown}
 use Rattle.term.specs.Term.{Term, const, var, shift, sum, diff, neg, read, fresh, write}
-use Rattle.term.specs.declared.Base.{Base}
-use Rattle.term.specs.declared.Base.TheVariants.{Nothing, One, Sum, Difference, Negative}
-use Rattle.term.specs.Base.{base_of, written, is_nothing, same_base, base, offset, open_to, plain_of, plain}
+use Rattle.term.specs.Base.{Base, Nothing, One, Sum, Difference, Negative, base_of, written, is_nothing, same_base, base, offset, open_to, plain_of, plain}
 use Rattle.term.specs.Relation.{related, range_of}
 use Rattle.term.specs.Walk.{Walk, found, passed, undecided, ended, step, walk_at, walk}
 use Rattle.term.specs.Rule.{shift_rule, sum_rule, neg_by, neg_rule, diff_rule, read_by, read_rule, skip_by, skip_at, write_rule, rule}

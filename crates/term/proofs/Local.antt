@@ -10,9 +10,7 @@ use Rattle.range.specs.Range as range
 use Rattle.term.specs.declared.Relation.{Relation}
 use Rattle.term.specs.declared.Relation.TheVariants.{Same, Apart, Unknown}
 use Rattle.term.specs.Term.{Term, const, var, shift, sum, diff, neg, read, fresh, write}
-use Rattle.term.specs.declared.Base.{Base}
-use Rattle.term.specs.declared.Base.TheVariants.{Nothing, One, Sum, Difference, Negative}
-use Rattle.term.specs.Base.{base_of, offset_of, written, base, offset, open_row, open_offset, open_to, open_by, plain_of, plain}
+use Rattle.term.specs.Base.{Base, Nothing, One, Sum, Difference, Negative, base_of, offset_of, written, base, offset, open_row, open_offset, open_to, open_by, plain_of, plain}
 use Rattle.term.specs.Relation.{Rests, range_by, range_down, range_of, related}
 use Rattle.term.specs.Walk.{Walk, found, passed, undecided, ended, step, walk_at, walk, compared}
 use Rattle.term.specs.Rule.{shift_rule, sum_rule, neg_by, neg_rule, diff_rule, read_by, read_rule, skip_by, skip_at, write_rule, rule}

@@ -10,9 +10,7 @@ use Rattle.word.proofs.Words.{plus_below, minus_below}
 use Rattle.range.specs.declared.Range.{Range}
 use Rattle.term.specs.Term.{Term, const, var, shift, sum, diff, neg, read, fresh, write, stated_by, is_array}
 use Rattle.term.specs.Seen.{first_row, is_later, by_name, seen}
-use Rattle.term.specs.declared.Base.{Base}
-use Rattle.term.specs.declared.Base.TheVariants.{Nothing, One, Sum, Difference, Negative}
-use Rattle.term.specs.Base.{written, is_nothing, same_base, base, offset}
+use Rattle.term.specs.Base.{Base, Nothing, One, Sum, Difference, Negative, written, is_nothing, same_base, base, offset}
 use Rattle.term.specs.Relation.{range_of}
 use Rattle.term.specs.Walk.{Walk, found, passed, undecided, ended, walk}
 use Rattle.term.specs.Rule.{shift_rule, sum_rule, neg_by, neg_rule, diff_rule, read_by, read_rule, write_rule, rule}

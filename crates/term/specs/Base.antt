@@ -1,8 +1,13 @@
 -- Base and offset: document 01, "Normal form of a word". M is 2 ^ w.
-use Rattle.std.specs.Prelude.{ℕ, Bool, true, false, cond, ◌&&◌, eqb}
-use Rattle.term.specs.declared.Base.{Base}
-use Rattle.term.specs.declared.Base.TheVariants.{Nothing, One, Sum, Difference, Negative}
+use Rattle.std.specs.Prelude.{ℕ, Bool, cond, ◌&&◌, eqb}
+use Rattle.row.specs.Names.{CONST, SHIFT, SUM, DIFF, NEG}
 use Rattle.term.specs.Term.{Term, const, var, shift, sum, diff, neg, read, fresh, write}
+
+pub data Base : Type 0 where
+  Nothing : Base
+  One : ℕ → Base
+  Sum Difference : ℕ → ℕ → Base
+  Negative : ℕ → Base
 
 -- the base of result row r, which is the given term. (An array row has none that is asked for.)
 unfoldable pub base_of : ℕ → Term → Base
@@ -36,22 +41,35 @@ written (Sum x y) k = sum x y k
 written (Difference x y) k = diff x y k
 written (Negative x) k = neg x k
 
+-- a base by numbers: the kind that it is written as, and the rows that it names
+unfoldable pub shape_of : Base → ℕ
+shape_of Nothing = CONST
+shape_of (One x) = SHIFT
+shape_of (Sum x y) = SUM
+shape_of (Difference x y) = DIFF
+shape_of (Negative x) = NEG
+
+unfoldable pub left_of : Base → ℕ
+left_of Nothing = 0
+left_of (One x) = x
+left_of (Sum x y) = x
+left_of (Difference x y) = x
+left_of (Negative x) = x
+
+unfoldable pub right_of : Base → ℕ
+right_of Nothing = 0
+right_of (One x) = 0
+right_of (Sum x y) = y
+right_of (Difference x y) = y
+right_of (Negative x) = 0
+
 -- the bases agree
 unfoldable pub same_base : Base → Base → Bool
-same_base Nothing Nothing = true
-same_base (One x) (One y) = eqb x y
-same_base (Sum x y) (Sum u v) = eqb x u && eqb y v
-same_base (Difference x y) (Difference u v) = eqb x u && eqb y v
-same_base (Negative x) (Negative y) = eqb x y
-same_base _ _ = false
+same_base d e = eqb (shape_of d) (shape_of e) && eqb (left_of d) (left_of e) && eqb (right_of d) (right_of e)
 
 -- constant: the base is nothing
 unfoldable pub is_nothing : Base → Bool
-is_nothing Nothing = true
-is_nothing (One x) = false
-is_nothing (Sum x y) = false
-is_nothing (Difference x y) = false
-is_nothing (Negative x) = false
+is_nothing d = eqb (shape_of d) CONST
 
 -- what row r of base d and offset k opens to: the row x, and its offset
 unfoldable pub open_row : ℕ → Base → ℕ

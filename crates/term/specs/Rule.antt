@@ -4,9 +4,7 @@ use Rattle.std.specs.Prelude.{ℕ, min, max, cond}
 use Rattle.word.specs.Word.{plus, minus}
 use Rattle.range.specs.declared.Range.{Range}
 use Rattle.term.specs.Term.{Term, const, var, shift, sum, diff, neg, read, fresh, write}
-use Rattle.term.specs.declared.Base.{Base}
-use Rattle.term.specs.declared.Base.TheVariants.{Nothing, One, Sum, Difference, Negative}
-use Rattle.term.specs.Base.{written, is_nothing, same_base, base, offset, open_to, open_by, plain}
+use Rattle.term.specs.Base.{Base, Nothing, One, Sum, Difference, Negative, written, is_nothing, same_base, base, offset, open_to, open_by, plain}
 use Rattle.term.specs.declared.Relation.{Relation}
 use Rattle.term.specs.declared.Relation.TheVariants.{Same, Apart, Unknown}
 use Rattle.term.specs.Relation.{related}

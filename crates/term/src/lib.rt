@@ -1,18 +1,7 @@
-// The written rules over rows as terms, and their laws. The only code is the types of bases and of what is known of two rows, and why, and what is known
-// by a reason.
+// The written rules over rows as terms, and their laws. The only code is the types of what is known of two rows, and why, and what is known by a reason.
 #![tactic(auto)]
 
 use range::Range;
-
-// What the offset of a word row is added to: nothing, the word of one row, the sum of two rows, the difference of two, or a row negated.
-#[derive(Clone, Copy, PartialEq, Eq)]
-pub enum Base {
-    Nothing,
-    One(usize),
-    Sum(usize, usize),
-    Difference(usize, usize),
-    Negative(usize),
-}
 
 // What is known of two word rows: they are equal, they differ, or neither is known.
 #[derive(Clone, Copy)]
