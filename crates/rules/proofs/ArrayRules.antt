@@ -8,7 +8,7 @@ use Rattle.row.specs.declared.Row.{Row}
 use Rattle.row.specs.Bytes.{row, Decoded}
 use Rattle.row.specs.Names.{READ, WRITE}
 use Rattle.term.specs.Term.{Term, const, var, shift, sum, diff, neg, read, fresh, write, row_of}
-use Rattle.term.specs.Base.{base_of, offset_of, plain_of, plain}
+use Rattle.term.specs.Base.{base_of, offset_of, shape_of, left_of, plain_of, plain}
 use Rattle.term.specs.Bytes.{look}
 use Rattle.term.specs.declared.Relation.{Relation}
 use Rattle.term.specs.declared.Relation.TheVariants.{Same, Apart, Unknown}
@@ -21,7 +21,7 @@ use Rattle.walks.specs.declared.relation.Index.{Index}
 use Rattle.walks.specs.declared.walking.Landing.{Landing}
 use Rattle.walks.specs.declared.walking.Landing.TheVariants.{Found, Stopped}
 use Rattle.walks.specs.declared.walking.Walked.{Walked}
-use Rattle.walks.specs.Value.{value_of, value_at, plain_by, plain_from}
+use Rattle.walks.specs.Value.{value_from, value_of, value_at, plain_from}
 use Rattle.walks.specs.Walked.{landing, walked_by}
 use Rattle.walks.specs.Ready.{Sought}
 use Rattle.walks.proofs.Stores.{NoStore, no_store, store_at}
@@ -32,7 +32,7 @@ use Rattle.rules.specs.Ready.{Unary, Reading}
 -- ---- plain names
 
 plain_of_lem : (x : ℕ) (t : Term) → plain_from x (value_of x t) ≡ plain_of x t
-unfolding plain_from plain_by value_of base_of offset_of plain_of
+unfolding plain_from value_of value_from base_of offset_of shape_of left_of plain_of
 plain_of_lem x (const k) = refl
 plain_of_lem x (var name k h) = refl
 plain_of_lem x (shift a k) = refl

@@ -3,13 +3,15 @@ use Rattle.std.specs.Prelude.{ℕ, ◌+◌, ◌≤◌, ◌<◌, ◌≡◌, true,
 use Rattle.range.specs.declared.Range.{Range}
 use Rattle.range.specs.Range.{span, point}
 use Rattle.range.specs.Store.{kept}
-use Rattle.row.specs.Names.{LENGTH, place}
+use Rattle.row.specs.declared.Row.{Row}
+use Rattle.row.specs.Names.{LENGTH, SHIFT, place}
 use Rattle.table.specs.Refusals.{MOST}
 use Rattle.term.specs.Term.{Term, fresh, write, is_array}
 use Rattle.term.specs.WellFormed.{Names}
 use Rattle.term.specs.Bytes.{look}
+use Rattle.walks.specs.declared.value.Value.{Value}
 use Rattle.walks.specs.declared.relation.Index.{Index}
-use Rattle.walks.specs.Value.{value_at}
+use Rattle.walks.specs.Value.{value, value_at}
 
 -- a term names rows below x alone
 abbrev pub NamesBelow : ℕ → Term → Type 0
@@ -43,6 +45,11 @@ pub record Linked (R : List ℕ) (S : List Range) (r : ℕ) : Type 0 where
 pub record Sought (f : ℕ → Term) (g : ℕ → Range) (j : Index) : Type 0 where
   pub value : j.value ≡ value_at f j.row
   pub range : j.range ≡ g j.row
+
+-- v is the value of row x, and u that of some row: the base of a SHIFT names one row
+pub record Shared (x : Row) (v u : Value) : Type 0 where
+  pub shift : x.kind ≡ SHIFT → v ≡ value SHIFT x.a 0 x.k
+  pub second : u.kind ≡ SHIFT → u.b ≡ 0
 
 -- of a comparison of row b with the index j
 pub record Comparing (R : List ℕ) (S : List Range) (b : ℕ) (j : Index) : Type 0 where

@@ -7,5 +7,5 @@ mod value;
 mod walking;
 
 pub use relation::{Index, index_at, reason, related};
-pub use value::{Moved, Value, opened, plain_name, same_base, value_at};
+pub use value::{Value, opened, plain_name, same_base, value_at};
 pub use walking::{Landing, Walked, walk};

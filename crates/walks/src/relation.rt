@@ -4,10 +4,12 @@ ghost use Rattle.range.specs.Store.{kept};
 ghost use Rattle.term.specs.Bytes.{look};
 ghost use Rattle.term.specs.Relation.{related};
 ghost use Rattle.term.specs.Reason.{reason};
-ghost use Rattle.walks.specs.Ready.{Reached, Sought, Comparing};
+ghost use Rattle.walks.specs.Value.{agree};
+ghost use Rattle.walks.specs.Ready.{Reached, Shared, Sought, Comparing};
 
 use super::value::{Value, same_base, value_at};
 use range::{Range, Store};
+use row::{Kind, Row};
 use term::{Reason, Relation, Spans};
 
 // An index row with its value and its range, read once for a whole walk.
@@ -31,19 +33,34 @@ pub fn index_at(res: &[u8], store: &Store, i: usize) -> Index
     }
 }
 
+// Whether the bases of v, the value of row x, and u agree. Nearly every index of a walk is a SHIFT, as is the one sought: the row that each moves tells then.
+fn shares_base(x: Row, v: Value, u: Value) -> bool
+    requires { Shared x v u }
+    ensures { result ≡ agree v u }
+{
+    if x.is(Kind::Shift) {
+        if u.kind == Kind::Shift as u8 {
+            return x.a == u.a;
+        }
+        return false;
+    }
+    same_base(v, u)
+}
+
 // Why of row b, the index of a store, and the index j. This and what calls it are in line, so that a step of a walk makes no call.
 #[inline(always)]
 pub fn reason(res: &[u8], store: &Store, b: usize, j: Index) -> Reason
     requires { Comparing res.now store.now b j }
     ensures { result ≡ reason (look res.now) (kept store.now) b j.row }
 {
+    let x = Row::decode(res, b);
     let v = value_at(res, b);
     let u = j.value;
-    if same_base(v, u) {
-        if v.offset == u.offset {
+    if shares_base(x, v, u) {
+        if v.k == u.k {
             return Reason::SamePlace;
         }
-        return Reason::Offsets(v.offset, u.offset);
+        return Reason::Offsets(v.k, u.k);
     }
     let a = store.load(b);
     let c = j.range;

@@ -1,37 +1,37 @@
 // Base and offset of a result row, as one struct.
-ghost use Rattle.std.specs.Prelude.{ℕ, ◌≡◌, ◌+◌, ◌≤◌, ◌<◌, length};
+ghost use Rattle.std.specs.Prelude.{◌≡◌, ◌+◌, ◌≤◌, ◌<◌, length};
 ghost use Rattle.row.specs.Names.{place, LENGTH, SHIFT, NEG};
 ghost use Rattle.term.specs.Term.{term_of};
-ghost use Rattle.term.specs.Base.{same_base};
 ghost use Rattle.term.specs.Bytes.{look};
-ghost use Rattle.walks.specs.Value.{value, value_of, value_at, opened_from, plain_from};
+ghost use Rattle.walks.specs.Value.{value, value_of, value_at, second_of, agree, opened_from, plain_from};
 
 use row::{Kind, Row};
-use term::Base;
 
+// A base is told by the kind of the row that it is written as, CONST, SHIFT, SUM, DIFF or NEG, and by the rows that it names.
+// The kind is a byte and no `Kind`, as in `Row`: two values are compared by their numbers, whatever these are.
 #[derive(Clone, Copy)]
 pub struct Value {
-    pub base: Base,
-    pub offset: u64,
+    pub kind: u8,
+    pub a: usize,
+    pub b: usize,
+    pub k: u64,
 }
 
-// A row moved by an offset.
-#[derive(Clone, Copy)]
-pub struct Moved {
-    pub row: usize,
-    pub offset: u64,
+impl Value {
+    pub fn make(kind: u8, a: usize, b: usize, k: u64) -> Value
+        ensures { result ≡ value kind a b k }
+    {
+        Value { kind, a, b, k }
+    }
 }
 
-// The value of result row r, which is x. Nearly every index of a walk is a SHIFT, so that goes first.
-// Comparisons of bytes tell the other kinds: a match on `Kind::of` made walks three times as slow.
+// The value of result row r, which is x. Nearly every index of a walk is a SHIFT, so that goes first. Two comparisons tell the other kinds that have a base of
+// their own shape, SUM to NEG: a match on `Kind::of` made walks three times as slow.
 fn value_of(x: Row, r: usize) -> Value
     ensures { result ≡ value_of r (term_of x) }
 {
     if x.is(Kind::Shift) {
-        return Value {
-            base: Base::One(x.a),
-            offset: x.k,
-        };
+        return Value::make(Kind::Shift as u8, x.a, 0, x.k);
     }
     if x.kind < Kind::Shift as u8 {
         return value_below(x, r);
@@ -39,10 +39,7 @@ fn value_of(x: Row, r: usize) -> Value
     if x.kind > Kind::Neg as u8 {
         return value_above(x, r);
     }
-    Value {
-        base: base_between(x),
-        offset: x.k,
-    }
+    Value::make(x.kind, x.a, second_row(x), x.k)
 }
 
 // The value of result row r, which is a CONST or a VAR, or of no kind.
@@ -51,21 +48,12 @@ fn value_below(x: Row, r: usize) -> Value
     ensures { result ≡ value_of r (term_of x) }
 {
     if x.is(Kind::Var) {
-        return Value {
-            base: Base::One(r),
-            offset: 0,
-        };
+        return Value::make(Kind::Shift as u8, r, 0, 0);
     }
     if x.is(Kind::Const) {
-        return Value {
-            base: Base::Nothing,
-            offset: x.k,
-        };
+        return Value::make(Kind::Const as u8, 0, 0, x.k);
     }
-    Value {
-        base: Base::Nothing,
-        offset: 0,
-    }
+    Value::make(Kind::Const as u8, 0, 0, 0)
 }
 
 // The value of result row r, which is a READ or an array, or of no kind.
@@ -74,30 +62,22 @@ fn value_above(x: Row, r: usize) -> Value
     ensures { result ≡ value_of r (term_of x) }
 {
     if x.kind > Kind::Write as u8 {
-        return Value {
-            base: Base::Nothing,
-            offset: 0,
-        };
+        return Value::make(Kind::Const as u8, 0, 0, 0);
     }
-    Value {
-        base: Base::One(r),
-        offset: 0,
-    }
+    Value::make(Kind::Shift as u8, r, 0, 0)
 }
 
-// The base of a SUM, a DIFF or a NEG.
-fn base_between(x: Row) -> Base
-    requires above { SHIFT < x.kind }
-    requires below { x.kind ≤ NEG }
-    ensures { (r : ℕ) → value result x.k ≡ value_of r (term_of x) }
+// The second row that a base names: SUM and DIFF have one.
+fn second_row(x: Row) -> usize
+    ensures { result ≡ second_of x }
 {
     if x.is(Kind::Sum) {
-        return Base::Sum(x.a, x.b);
+        return x.b;
     }
     if x.is(Kind::Diff) {
-        return Base::Difference(x.a, x.b);
+        return x.b;
     }
-    Base::Negative(x.a)
+    0
 }
 
 // The value of result row r.
@@ -108,40 +88,38 @@ pub fn value_at(res: &[u8], r: usize) -> Value
     value_of(Row::decode(res, r), r)
 }
 
-// Whether the bases agree. Two SHIFTs are told by the rows that they move.
+// Whether the bases agree.
 pub fn same_base(u: Value, v: Value) -> bool
-    ensures { result ≡ same_base u.base v.base }
+    ensures { result ≡ agree u v }
 {
-    if let Base::One(a) = u.base {
-        if let Base::One(b) = v.base {
-            return a == b;
-        }
+    if u.kind != v.kind {
         return false;
     }
-    u.base == v.base
+    if u.a != v.a {
+        return false;
+    }
+    u.b == v.b
 }
 
-// What row r of value v opens to: the row that its base names, if that is one row alone, else itself.
-pub fn opened(v: Value, r: usize) -> Moved
+// What row r of value v opens to: a row and an offset.
+pub fn opened(v: Value, r: usize) -> Value
     ensures { result ≡ opened_from r v }
 {
-    match v.base {
-        Base::One(a) => Moved {
-            row: a,
-            offset: v.offset,
-        },
-        _ => Moved { row: r, offset: 0 },
+    if v.kind == Kind::Shift as u8 {
+        return v;
     }
+    Value::make(Kind::Shift as u8, r, 0, 0)
 }
 
 // The plain name of row r of value v. A variable's own value names the row itself.
 pub fn plain_name(v: Value, r: usize) -> usize
     ensures { result ≡ plain_from r v }
 {
-    if let Base::One(a) = v.base {
-        if v.offset == 0 {
-            return a;
-        }
+    if v.kind != Kind::Shift as u8 {
+        return r;
     }
-    r
+    if v.k != 0 {
+        return r;
+    }
+    v.a
 }

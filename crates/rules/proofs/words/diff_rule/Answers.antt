@@ -11,11 +11,11 @@ value_at-v-requires c = search row_room
 pub returns-then-same_base : goal.returns-then-same_base
 returns-then-same_base c = search diff_same
 
-pub returns-in-Nothing : goal.returns-in-Nothing
-returns-in-Nothing c = search diff_by_constant
+pub returns-then-v : goal.returns-then-v
+returns-then-v c = search diff_by_constant
 
-pub returns-in-Nothing-base : goal.returns-in-Nothing-base
-returns-in-Nothing-base c = search diff_from_constant
+pub returns-then-u : goal.returns-then-u
+returns-then-u c = search diff_from_constant
 
 pub returns : goal.returns
 returns c = search diff_opened

@@ -8,11 +8,11 @@ value_at-u-requires c = search row_room
 pub value_at-v-requires : goal.value_at-v-requires
 value_at-v-requires c = search row_room
 
-pub returns-in-Nothing : goal.returns-in-Nothing
-returns-in-Nothing c = search sum_constant
+pub returns-then-u : goal.returns-then-u
+returns-then-u c = search sum_constant
 
-pub returns-in-Nothing-base : goal.returns-in-Nothing-base
-returns-in-Nothing-base c = search sum_by_constant
+pub returns-then-v : goal.returns-then-v
+returns-then-v c = search sum_by_constant
 
 pub returns : goal.returns
 returns c = search sum_opened

@@ -1,11 +1,11 @@
-use Rattle.walks.proofs.Bases.{plain_named, plain_moved, plain_other}
+use Rattle.walks.proofs.Bases.{plain_other, plain_moved, plain_named}
 use Rattle.walks.proofs.value.plain_name.Goals as goal
 
-pub returns-then-v-eq0 : goal.returns-then-v-eq0
-returns-then-v-eq0 c = search plain_named
+pub returns-then-v : goal.returns-then-v
+returns-then-v c = search plain_other
 
-pub returns-else-v-eq0 : goal.returns-else-v-eq0
-returns-else-v-eq0 c = search plain_moved
+pub returns-then-v-ne0 : goal.returns-then-v-ne0
+returns-then-v-ne0 c = search plain_moved
 
-pub returns-in_default : goal.returns-in_default
-returns-in_default c = search plain_other
+pub returns : goal.returns
+returns c = search plain_named

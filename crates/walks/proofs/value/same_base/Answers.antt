@@ -1,13 +1,11 @@
-use mathlib.Core.Path.{◌∙◌}
-use Rattle.term.proofs.Bases.{derived_same}
-use Rattle.walks.proofs.Bases.{same_ones, one_other}
+use Rattle.walks.proofs.Bases.{agree_kinds, agree_left, agree_right}
 use Rattle.walks.proofs.value.same_base.Goals as goal
 
-pub returns-in-One-base : goal.returns-in-One-base
-returns-in-One-base c = search same_ones
+pub returns-then-u-v : goal.returns-then-u-v
+returns-then-u-v c = search agree_kinds
 
-pub returns-in-One : goal.returns-in-One
-returns-in-One c = search one_other
+pub returns-then-u-v-2 : goal.returns-then-u-v-2
+returns-then-u-v-2 c = search agree_left
 
 pub returns : goal.returns
-returns c = c.eq.ensures ∙ derived_same c.args.u.base c.args.v.base
+returns c = search agree_right
