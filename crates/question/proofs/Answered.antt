@@ -35,7 +35,7 @@ use Rattle.term.specs.Reason.{reason}
 use Rattle.term.specs.Bytes.{look}
 use Rattle.term.proofs.Reasons.{reason_agree}
 use Rattle.walks.specs.declared.value.Value.{Value}
-use Rattle.walks.specs.Value.{value_at}
+use Rattle.walks.specs.Value.{value_at, agree}
 use Rattle.walks.specs.Ready.{Reached}
 use Rattle.walks.proofs.Relations.{agree_bases}
 use Rattle.judge.specs.Verdict.{is_accepted}
@@ -87,12 +87,12 @@ module _ (R : List ℕ) (w x y : ℕ) (two : TwoWords R w x y) where
   told = reason (look R) (range_of (2 ^ w) (look R)) x y
 
   -- on a shared base the ranges play no part
-  pub why_shared : (S : List Range) {u v : Value} {b : Bool} {r : Reason} → u ≡ value_at (look R) x → v ≡ value_at (look R) y → b ≡ same_base u.base v.base → b ≡ true →
+  pub why_shared : (S : List Range) {u v : Value} {b : Bool} {r : Reason} → u ≡ value_at (look R) x → v ≡ value_at (look R) y → b ≡ agree u v → b ≡ true →
       r ≡ reason (look R) (kept S) x y → r ≡ told
   unfolding reason
-  why_shared S {u} {v} {b} eu ev e t is =
+  why_shared S eu ev e t is =
       let shared : same_base (base (look R) x) (base (look R) y) ≡ true =
-      sym (agree_bases (look R) x y u v b eu ev e) ∙ t in
+      sym (agree_bases (look R) x y) ∙ sym (rw (eu, ev) at e) ∙ t in
       is ∙ pick_true _ _ _ shared ∙ sym (pick_true _ _ _ shared)
 
   pub why_kept : {S : List Range} → {r : Reason} → TwoKept R w x y S → r ≡ reason (look R) (kept S) x y → r ≡ told
