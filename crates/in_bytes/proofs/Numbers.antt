@@ -1,6 +1,6 @@
 -- Numbers and their bytes: what the code reads and writes piece by piece, and that either gives back the other.
 use Prim.Native.Nat.{ℕ, zero, suc, ◌+◌, ◌*◌, ◌/◌, ◌%◌, ◌^◌, ◌<◌, ◌≤◌}
-use native.Mathlib.Nat.{add-zero, pow-succ', pow-le-pow_right, zero-add, suc-add, mul_left_comm, mul-le-mul, mod-eq_of_lt, add_comm}
+use native.Mathlib.Nat.{add_assoc, add-zero, pow-succ', pow-le-pow_right, zero-add, suc-add, mul_left_comm, mul-le-mul, mod-eq_of_lt, add_comm}
 use native.Mathlib.Numerals.{add-one, one-add}
 use native.Mathlib.Omega.{arith}
 use mathlib.Core.Path.{◌≡◌, refl, ap, ap₂}
@@ -14,6 +14,10 @@ use Rattle.in_bytes.specs.Numbers.{byte, number, bytes, AllBytes, Read}
 -- a byte, wherever it stands, is a word
 pub byte_fits : (t : List ℕ) → AllBytes t → (i : ℕ) → byte t i < 2 ^ 64
 byte_fits t all i = omega (arith, all i)
+
+pub number_eight : (t : List ℕ) (i : ℕ) → number 8 t i ≡ number 4 t i + 4294967296 * number 4 t (i + 4)
+unfolding number
+number_eight t i = simp add_assoc (omega arith)
 
 pub length_bytes : (n v : ℕ) → length (bytes n v) ≡ n
 unfolding bytes
