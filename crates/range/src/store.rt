@@ -1,5 +1,5 @@
 // The ranges of the rows of a table.
-ghost use Rattle.std.specs.Prelude.{◌≡◌, ◌<◌, replicate};
+ghost use Rattle.std.specs.Prelude.{◌≡◌, ◌<◌, length, replicate};
 ghost use Rattle.range.specs.Range.{point};
 ghost use Rattle.range.specs.Store.{kept, keep};
 
@@ -13,12 +13,14 @@ pub struct Store {
 }
 
 impl Model for Store {
-    ghost use Rattle.std.specs.Prelude.{List};
+    ghost use Rattle.std.specs.Prelude.{List, ◌≡◌, length};
     ghost use Rattle.range.specs.declared.Range.{Range};
 
     ghost Value = { List Range };
 
     ghost view = { λ s. s.ranges };
+
+    ghost invariant = { λ s. length s.ranges ≡ 1024 };
 }
 
 impl Store {
@@ -34,7 +36,8 @@ impl Store {
     // The range kept for row x.
     pub fn load(&self, x: usize) -> Range
         requires { x < 1024 }
-        ensures { result ≡ kept self.now x }
+        ensures range { result ≡ kept self.now x }
+        ensures long { length self.now ≡ 1024 }
     {
         self.ranges[x]
     }
@@ -42,7 +45,8 @@ impl Store {
     // Keeps a for row r.
     pub fn save(&mut self, r: usize, a: Range)
         requires { r < 1024 }
-        ensures { self.new ≡ keep self.old r a }
+        ensures range { self.new ≡ keep self.old r a }
+        ensures long { length self.old ≡ 1024 }
     {
         self.ranges[r] = a;
     }
