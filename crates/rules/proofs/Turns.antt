@@ -221,12 +221,12 @@ module _ (T R R' : List ℕ) (S : List Range) (w limit r first : ℕ) (touched :
   turn_asks =
       record { few = given.rows.few; fits = done.fits; names = done.names; words = settled_words }
 
-  module _ (S' : List Range) (a : Range) (is : a ≡ entry (2 ^ w) (kept S) (term_of x)) (saved : S' ≡ keep S r a) where
+  module _ (S' : List Range) (a : Range) (is : a ≡ entry (2 ^ w) (kept S) (term_of x)) (saved : S' ≡ keep S r a) (long : length S ≡ MOST) where
     saved_other : (y : ℕ) → y < r → kept S' y ≡ kept S y
     saved_other y h = rw saved (keep_other S r a y (λ e. omega arith))
 
     saved_here : kept S' r ≡ entry (2 ^ w) (kept S) (look R' r)
-    saved_here = rw saved (keep_same S r a (omega (arith, given.few, given.ranges.whole)) ∙ is ∙ ap (entry (2 ^ w) (kept S)) done.row)
+    saved_here = rw saved (keep_same S r a (omega (arith, given.few, long)) ∙ is ∙ ap (entry (2 ^ w) (kept S)) done.row)
 
     settled_proper : (y : ℕ) → y < suc r → is_array (look R' y) ≡ false → Proper (2 ^ w) (kept S' y)
     settled_proper y l word =
@@ -262,9 +262,10 @@ module _ (T R R' : List ℕ) (S : List Range) (w limit r first : ℕ) (touched :
           result = done.result;
           row = sym done.row ∙ done.becomes;
           store = saved ∙ rw (is, done.row);
+          long = ap length saved ∙ keep_length S r a ∙ long;
           rows = settled_standing;
           sorted = record { sorts = settled_sorts };
-          ranges = record { whole = ap length saved ∙ keep_length S r a ∙ given.ranges.whole; proper = settled_proper };
+          ranges = record { proper = settled_proper };
           links = settled_links;
           counted = counted ∙ done.compared;
         }

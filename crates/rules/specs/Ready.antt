@@ -1,5 +1,5 @@
 -- What the functions ask of their callers. R are the bytes of the result, S is the store of ranges, r is the row that is worked out.
-use Rattle.std.specs.Prelude.{ℕ, ◌^◌, ◌≤◌, ◌<◌, ◌≡◌, false, List, length}
+use Rattle.std.specs.Prelude.{ℕ, ◌^◌, ◌≤◌, ◌<◌, ◌≡◌, false, List}
 use Rattle.range.specs.declared.Range.{Range}
 use Rattle.range.specs.Range.{Proper}
 use Rattle.range.specs.Store.{kept}
@@ -11,9 +11,8 @@ use Rattle.walks.specs.declared.value.Value.{Value}
 use Rattle.walks.specs.Value.{value_at}
 use Rattle.walks.specs.Ready.{NamesBelow, SortsIn, Standing, Sorted, Linked}
 
--- the store is whole, and has for each word row below r a range of words below M
+-- the store has for each word row below r a range of words below M
 pub record Ranged (M : ℕ) (R : List ℕ) (S : List Range) (r : ℕ) : Type 0 where
-  pub whole : length S ≡ MOST
   pub proper : (x : ℕ) → x < r → is_array (look R x) ≡ false → Proper M (kept S x)
 
 -- of a rule for words, with one operand and with two

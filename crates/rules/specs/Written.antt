@@ -75,6 +75,7 @@ pub record Written (T R R' : List ℕ) (S S' : List Range) (w limit r : ℕ) (to
   pub result : R' ≡ settled T R S w limit r touched
   pub row : look R' r ≡ becomes T R S w limit r touched
   pub store : S' ≡ keep S r (entry (2 ^ w) (kept S) (look R' r))
+  pub long : length S' ≡ MOST
   pub rows : Standing R' (suc r)
   pub sorted : Sorted R' (suc r)
   pub ranges : Ranged (2 ^ w) R' S' (suc r)
