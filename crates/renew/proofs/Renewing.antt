@@ -17,10 +17,11 @@ use Rattle.basis.proofs.Pick.{pick_case, test_case, pick_alike}
 use Rattle.basis.proofs.Counts.{count_next, total_next}
 use Rattle.range.specs.declared.Range.{Range}
 use Rattle.range.specs.Store.{kept}
-use Rattle.range.proofs.Kept.{keep_same, keep_other}
+use Rattle.range.proofs.Kept.{keep_length, keep_same, keep_other}
 use Rattle.row.specs.Names.{LENGTH, place}
 use Rattle.row.specs.Bytes.{source_at, put_row}
 use Rattle.row.proofs.Places.{room_below, place_grows}
+use Rattle.table.specs.Refusals.{MOST}
 use Rattle.term.specs.Term.{Term, is_read, is_array, term_of, row_of}
 use Rattle.term.specs.Relation.{range_of}
 use Rattle.names.specs.First.{name_at, first_of}
@@ -185,7 +186,9 @@ module _ (T R₀ : List ℕ) (S₀ : List Range) (marks : List ℕ) (w limit n :
 
     module _ (R' : List ℕ) (S' : List Range) {number : ℕ} (turn : Written T R R' S S' w limit r (marked marks r) number) where
       store_room : r < length S
-      store_room = omega (arith, can.few, at.ranged.whole)
+      store_room =
+          let long : length S ≡ MOST = sym (keep_length S r _) ∙ ap length (sym turn.store) ∙ turn.long in
+          omega (arith, can.few, long)
 
       -- the row that now stands at r
       made : look R' r ≡ out r
@@ -268,7 +271,7 @@ begun T R S marks w limit n can =
       ranges = λ x h e. absurd (omega arith);
       stand = record { few = omega arith; room = omega (arith, place_grows {r = 0} {n = n} (omega arith), can.room); names = λ x h. absurd (omega arith) };
       sorted = record { sorts = λ x h. absurd (omega arith) };
-      ranged = record { whole = can.store_long; proper = λ x h e. absurd (omega arith) };
+      ranged = record { proper = λ x h e. absurd (omega arith) };
       links = record { stores = λ x a b c h. absurd (omega arith); ends = λ x h. absurd (omega arith) };
       counted = refl;
       summed = refl;

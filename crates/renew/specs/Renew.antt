@@ -38,7 +38,6 @@ pub record CanRenew (T R : List ℕ) (S : List Range) (marks : List ℕ) (w limi
   pub width : w ≤ 64
   pub few : n ≤ MOST
   pub limited : limit ≤ LIMIT
-  pub store_long : length S ≡ 1024
   pub table_room : place n ≤ length T
   pub room : place n ≤ length R
   pub formed : WellFormed (2 ^ w) (look T)
