@@ -17,7 +17,7 @@ use Rattle.names.specs.First.{name_of, name_at}
 use Rattle.names.proofs.First.{nameless_first}
 use Rattle.table.specs.declared.Uses.{Uses}
 use Rattle.table.specs.declared.Use.{Use}
-use Rattle.table.specs.declared.Use.TheVariants.{Unused, Name, Refers}
+use Rattle.table.specs.declared.Use.TheVariants.{Unused, Name, Refers, Other}
 use Rattle.table.specs.Uses.{sort_of, is_used, is_reference, refers_to, uses_of}
 use Rattle.table.specs.Refusals.{reference, use_at, other_bounds, row_fault}
 use Rattle.table.specs.Accepted.{GoodRow}
@@ -66,6 +66,7 @@ unfolding field_clean is_reference is_used
 field_zero t r Unused at clean e = eqb-true at 0 clean
 field_zero t r Name at clean e = cc
 field_zero t r (Refers sort) at clean e = cc
+field_zero t r (Other n) at clean e = cc
 
 -- ---- a row
 

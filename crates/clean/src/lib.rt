@@ -29,6 +29,7 @@ fn field(t: &[u8], r: usize, used: Use, at: usize) -> bool
 {
     match used {
         Use::Refers(sort) => at < r && Sort::of(Row::kind_at(t, at)) == sort,
+        Use::Other(_) => false,
         Use::Name | Use::Unused => at == 0,
     }
 }

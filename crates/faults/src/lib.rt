@@ -82,7 +82,7 @@ pub fn not_below(r: usize, u: Uses, x: Row, f: usize) -> bool
     requires { f < 3 }
     ensures { result ≡ not_below r u x f }
 {
-    matches!(use_at(u, f), Use::Refers(_)) && r <= reference(x, f)
+    matches!(use_at(u, f), Use::Refers(_) | Use::Other(_)) && r <= reference(x, f)
 }
 
 // 14, for field f of row r, which passed 13
@@ -93,6 +93,7 @@ pub fn wrong_sort(t: &[u8], r: usize, u: Uses, x: Row, f: usize) -> bool
 {
     match use_at(u, f) {
         Use::Refers(sort) => Sort::of(Row::kind_at(t, reference(x, f))) != sort,
+        Use::Other(_) => true,
         Use::Name | Use::Unused => false,
     }
 }

@@ -8,7 +8,7 @@ use Rattle.table.specs.declared.Uses.{Uses}
 use Rattle.table.specs.declared.Sort.{Sort}
 use Rattle.table.specs.declared.Sort.TheVariants.{Word, Array}
 use Rattle.table.specs.declared.Use.{Use}
-use Rattle.table.specs.declared.Use.TheVariants.{Unused, Name, Refers}
+use Rattle.table.specs.declared.Use.TheVariants.{Unused, Name, Refers, Other}
 use Rattle.table.specs.Uses.{is_sort, is_reference, refers_to}
 use Rattle.table.specs.Refusals.{reference, use_at, not_below, other_bounds}
 
@@ -30,6 +30,7 @@ unfolding refers_to
 refers_true s Unused e = cc
 refers_true s Name e = cc
 refers_true s (Refers other) e = ap Refers (sort_true s other e)
+refers_true s (Other n) e = cc
 
 pub refers_same : (s : Sort) (u : Use) → Refers s ≡ u → refers_to s u ≡ true
 unfolding refers_to

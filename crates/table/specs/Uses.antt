@@ -3,7 +3,7 @@ use Rattle.std.specs.Prelude.{ℕ, Bool, true, false, cond, ◌||◌, List, [], 
 use Rattle.table.specs.declared.Sort.{Sort}
 use Rattle.table.specs.declared.Sort.TheVariants.{Word, Array}
 use Rattle.table.specs.declared.Use.{Use}
-use Rattle.table.specs.declared.Use.TheVariants.{Unused, Name, Refers}
+use Rattle.table.specs.declared.Use.TheVariants.{Unused, Name, Refers, Other}
 use Rattle.table.specs.declared.Uses.{Uses}
 use Rattle.row.specs.Names.{FRESH, WRITE}
 
@@ -23,18 +23,21 @@ unfoldable pub is_used : Use → Bool
 is_used Unused = false
 is_used Name = true
 is_used (Refers sort) = true
+is_used (Other n) = true
 
 -- used to refer to a row
 unfoldable pub is_reference : Use → Bool
 is_reference Unused = false
 is_reference Name = false
 is_reference (Refers sort) = true
+is_reference (Other n) = true
 
 -- used to refer to a row of this sort
 unfoldable pub refers_to : Sort → Use → Bool
 refers_to sort Unused = false
 refers_to sort Name = false
 refers_to sort (Refers other) = is_sort sort other
+refers_to sort (Other n) = false
 
 abbrev pub uses : Use → Use → Use → Bool → Bool → Uses
 uses a b c k h = record { a = a; b = b; c = c; k = k; h = h }

@@ -87,6 +87,8 @@ pub enum Use {
     Unused,
     Name,
     Refers(Sort),
+    // any other number: it refers, and to a row of neither sort; no kind has it
+    Other(u8),
 }
 
 // What a kind uses: as what each reference field, and whether k and h.

@@ -22,7 +22,7 @@ fn field_marked(marks: &Marks, used: Use, x: usize) -> bool
     requires { HasMark used x }
     ensures { result ≡ (is_reference used && marked marks.now x) }
 {
-    matches!(used, Use::Refers(_)) && marks.is_marked(x)
+    matches!(used, Use::Refers(_) | Use::Other(_)) && marks.is_marked(x)
 }
 
 // Whether x, a row of a table, names a marked row.
