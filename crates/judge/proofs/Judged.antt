@@ -76,10 +76,9 @@ module _ (t buffer : List ℕ) (limit : ℕ) where
   unfolding run_reasons
   run_limited e f = onward (room_reasons t buffer) _ (room_numbered t buffer) e (sym f)
 
-  pub run_refused_lem : (fault : Fault) → number_of fault ≡ first (run_reasons t buffer limit) → ◌≡◌ {A = Verdict} (record { number = number_of fault; row = 0 }) (run_verdict t buffer limit)
+  pub run_refused_lem : {number : ℕ} → number ≡ first (run_reasons t buffer limit) → (number ≡ 0 → ⊥) → ◌≡◌ {A = Verdict} (record { number = number; row = 0 }) (run_verdict t buffer limit)
   unfolding run_verdict refuse
-  run_refused_lem fault e =
-      ap (λ (n : ℕ). refuse n 0) e ∙ sym (given_refuses (first (run_reasons t buffer limit)) 0 (check_rows t accepted) (λ z. fault_some fault (e ∙ z)))
+  run_refused_lem e h = ap (λ (n : ℕ). refuse n 0) e ∙ sym (given_refuses (first (run_reasons t buffer limit)) 0 (check_rows t accepted) (λ z. h (e ∙ z)))
 
   pub head_passes : 0 ≡ first (run_reasons t buffer limit) → first (head_reasons t) ≡ 0
   head_passes e = (run_ready t buffer limit (sym e)).roomy.head

@@ -50,10 +50,10 @@ module _ (marks : List ℕ) (words : Words marks) (x : ℕ) (passed : Bool) (l :
       one_or (get_or marks (x / 64) 0) (added x passed) (y % 64) ∙
       ap (λ (i : ℕ). is_one (get_or marks i 0) (y % 64) || is_one (added x passed) (y % 64)) (sym e)
 
-  mark_here : marked after x ≡ (marked marks x || passed)
+  pub mark_here : marked after x ≡ (marked marks x || passed)
   mark_here = same_word_lem x refl ∙ ap (λ (b : Bool). marked marks x || b) (added_here x passed)
 
-  mark_there : (y : ℕ) → (y ≡ x → ⊥) → marked after y ≡ marked marks y
+  pub mark_there : (y : ℕ) → (y ≡ x → ⊥) → marked after y ≡ marked marks y
   unfolding marked with_mark
   mark_there y other =
       test_case (eqb (y / 64) (x / 64))
@@ -79,7 +79,7 @@ bits marks n b h =
     ap₂ (λ (i k : ℕ). is_one (get_or marks i 0) k) word place
 
 -- the ones of the first n words are the marked ones of the first 64n rows
-ones_marked : (marks : List ℕ) → Words marks → (n : ℕ) → ones_of marks n ≡ count_where (marked marks) (64 * n)
+pub ones_marked : (marks : List ℕ) → Words marks → (n : ℕ) → ones_of marks n ≡ count_where (marked marks) (64 * n)
 unfolding ones_of count_where
 ones_marked marks words zero = refl
 ones_marked marks words (suc n) =
@@ -98,6 +98,10 @@ rows_below marks n few none =
     count_add (marked marks) n (1024 - n) ∙
     ap (λ (k : ℕ). count_where (marked marks) n + k) (count_constant false (λ x. marked marks (n + x)) (1024 - n) (λ x l. none (n + x) (omega arith) (omega arith))) ∙
     add-zero (count_where (marked marks) n)
+
+-- and they are as many as the ones
+pub ones_below : (marks : List ℕ) → Words marks → (n : ℕ) → n ≤ 1024 → ((x : ℕ) → n ≤ x → x < 1024 → marked marks x ≡ false) → ones_of marks 16 ≡ count_where (marked marks) n
+ones_below marks words n few none = ones_marked marks words 16 ∙ rows_below marks n few none
 
 -- ---- no row marked, and every row
 

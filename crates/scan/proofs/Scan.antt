@@ -44,7 +44,7 @@ pub record Looking (t : List ℕ) (r : ℕ) (x : Row) (u : Uses) (mixed : Bool) 
   pub sorts : any_below (wrong_sort t u x) f ≡ mixed
 
 module _ (t : List ℕ) (w r : ℕ) (x : Row) (slots : List ℕ) (at : RowAsked t w r x slots) where
-  row_room : place r + LENGTH ≤ length t
+  pub row_room : place r + LENGTH ≤ length t
   row_room = room_in t at.within at.head.size
 
   module _ (u : Uses) (uses_is : u ≡ uses_of x.kind) where

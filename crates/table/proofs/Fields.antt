@@ -9,8 +9,13 @@ use Rattle.table.specs.declared.Sort.{Sort}
 use Rattle.table.specs.declared.Sort.TheVariants.{Word, Array}
 use Rattle.table.specs.declared.Use.{Use}
 use Rattle.table.specs.declared.Use.TheVariants.{Unused, Name, Refers, Other}
-use Rattle.table.specs.Uses.{is_sort, is_reference, refers_to}
+use Rattle.table.specs.Uses.{is_sort, is_reference, refers_to, uses, uses_of}
 use Rattle.table.specs.Refusals.{reference, use_at, not_below, other_bounds}
+
+-- 0 is no kind
+pub kind_zero_uses : (k : ℕ) → k ≡ 0 → uses_of k ≡ uses Unused Unused Unused false false
+unfolding uses_of
+kind_zero_uses k e = rw e
 
 -- what refers to a row of a sort, and what two sorts are
 pub sort_true : (s other : Sort) → is_sort s other ≡ true → s ≡ other
