@@ -11,7 +11,7 @@ use lib.ListN.{length}
 use Rattle.range.specs.declared.Range.{Range}
 use Rattle.range.specs.Range.{Proper}
 use Rattle.range.specs.Store.{kept, keep}
-use Rattle.range.proofs.Kept.{keep_length, keep_same, keep_other}
+use Rattle.range.proofs.Kept.{keep_same, keep_other}
 use Rattle.row.specs.declared.Row.{Row}
 use Rattle.row.specs.Names.{LENGTH, place}
 use Rattle.row.specs.Bytes.{Decoded}
@@ -74,12 +74,12 @@ module _ (R marks : List ℕ) (S : List Range) (w r : ℕ) (keeping : Keeping R 
             words = words;
           })
 
-      module _ {a : Range} {S' : List Range} (made : a ≡ entry (2 ^ w) (kept S) (term_of x)) (saved : S' ≡ keep S r a) where
+      module _ {a : Range} {S' : List Range} (made : a ≡ entry (2 ^ w) (kept S) (term_of x)) (saved : S' ≡ keep S r a) (long : length S ≡ 1024) where
         entered : a ≡ entry (2 ^ w) (kept S) (look R r)
         entered = made ∙ ap (entry (2 ^ w) (kept S)) is
 
         now_kept : kept S' r ≡ a
-        now_kept = ap (λ (s : List Range). kept s r) saved ∙ keep_same S r a (omega (arith, keeping.store.whole, row_few))
+        now_kept = ap (λ (s : List Range). kept s r) saved ∙ keep_same S r a (omega (arith, long, row_few))
 
         others : (y : ℕ) → (y ≡ r → ⊥) → kept S' y ≡ kept S y
         others y other = ap (λ (s : List Range). kept s y) saved ∙ keep_other S r a y other
@@ -109,7 +109,6 @@ module _ (R marks : List ℕ) (S : List Range) (w r : ℕ) (keeping : Keeping R 
               formed = keeping.formed;
               needs = keeping.needs;
               store = record {
-                whole = ap length saved ∙ keep_length S r a ∙ keeping.store.whole;
                 proper = λ y.
                     dite (ℕ_discrete y r)
                     (λ (s : y ≡ r). rw (s, now_kept) proper)

@@ -1,5 +1,5 @@
 -- The rows that two ranges are made from, and their ranges. R are the bytes of a result, w is its width, S the store of ranges.
-use Rattle.std.specs.Prelude.{ℕ, ◌^◌, ◌≤◌, ◌<◌, ◌≡◌, true, false, List, length}
+use Rattle.std.specs.Prelude.{ℕ, ◌^◌, ◌≤◌, ◌<◌, ◌≡◌, true, false, List}
 use Rattle.range.specs.declared.Range.{Range}
 use Rattle.range.specs.Range.{Proper}
 use Rattle.range.specs.Store.{kept}
@@ -37,9 +37,8 @@ pub record Needed (R marks : List ℕ) (r : ℕ) (after : List ℕ) : Type 0 whe
 
 -- ---- ranges, from the first row up
 
--- the store is whole and has ranges of words alone
+-- the store has ranges of words alone
 pub record Blank (w : ℕ) (S : List Range) : Type 0 where
-  pub whole : length S ≡ 1024
   pub proper : (x : ℕ) → Proper (2 ^ w) (kept S x)
 
 -- with each marked row the rows that its range is made from are marked, and the store has the ranges of the marked rows below r

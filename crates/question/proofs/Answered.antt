@@ -66,7 +66,6 @@ pub blank : (w : ℕ) → Blank w (replicate 1024 (point 0))
 unfolding point
 blank w =
     record {
-      whole = length-replicate {A = Range} 1024 (point 0);
       proper = λ x. subst (Proper (2 ^ w)) (sym (kept_new 1024 x)) (span_proper (2 ^ w) 0 0 (le_refl 0) (pow_pos w));
     }
 

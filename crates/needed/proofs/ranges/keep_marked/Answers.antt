@@ -18,6 +18,6 @@ loop-bit-preserved c =
       | then-is_marked w ↦
           rw w.store-is
           (up_saved _ _
-          (keep_saved _ _ _ _ _ c.loop-bit.invariant (omega arith) (sym c.is_marked.ensures ∙ w.if-is_marked.true) w.decode.ensures w.entry_of-a.ensures w.save.ensures))
+          (keep_saved _ _ _ _ _ c.loop-bit.invariant (omega arith) (sym c.is_marked.ensures ∙ w.if-is_marked.true) w.decode.ensures w.entry_of-a.ensures w.save.ensures.range w.save.ensures.long))
       | else-is_marked w ↦ rw w.store-is (up_bit _ _ c.loop-bit.invariant (sym c.is_marked.ensures ∙ w.if-is_marked.false))
     ]
