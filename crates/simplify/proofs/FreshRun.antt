@@ -1,11 +1,11 @@
 -- A fresh run: what its parts ask, and that what they leave is what the public promise says.
-use Prim.Native.Nat.{ℕ, ◌^◌, ◌≤◌, ◌<◌}
+use Prim.Native.Nat.{ℕ, ◌^◌, ◌≤◌, ◌<◌, ◌-◌}
 use Rattle.range.specs.declared.Range.{Range}
 use native.Mathlib.Omega.{arith}
 use mathlib.Core.Path.{◌≡◌, refl, ap, sym, ◌∙◌}
 use mathlib.Core.Bool.{true, true≢false}
 use mathlib.Core.List.{List}
-use lib.ListN.{length, take}
+use lib.ListN.{length, take, replicate}
 use lib.Seq.{sets, length-sets}
 use borrow.Author.Tests.{ne_eqb}
 use Rattle.row.specs.Names.{HEADER, place}
@@ -23,6 +23,7 @@ use Rattle.term.proofs.Placed.{length_put_rows}
 use Rattle.term.proofs.WellFormed.{formed_below}
 use Rattle.term.proofs.Accepted.{accepted_formed}
 use Rattle.marks.specs.Marks.{marked}
+use Rattle.marks.proofs.Marking.{all_marked}
 use Rattle.judge.specs.Verdict.{is_accepted}
 use Rattle.judge.specs.Run.{LIMIT, run_verdict}
 use Rattle.judge.proofs.Verdicts.{accepted_is}
@@ -35,6 +36,13 @@ use Rattle.renew.specs.Renew.{CanRenew, Renewed}
 use Rattle.simplify.specs.Run.{fresh_rows, fresh_bytes, fresh_removed, fresh_compared, run_answer, run_result, Ran}
 use Rattle.simplify.specs.Fresh.{CanFresh, Freshly}
 use Rattle.renew.proofs.Outcome.{outcome_is, ranges_are, bytes_are, removed_is, compared_is}
+
+-- every row is marked
+pub record AllMarked (marks : List ℕ) : Type 0 where
+  pub all : (x : ℕ) → x < 1024 → marked marks x ≡ true
+
+pub all_ones : AllMarked (replicate 16 (2 ^ 64 - 1))
+all_ones = record { all = all_marked }
 
 module _ (t buffer : List ℕ) (store : List Range) (limit : ℕ) (can : CanFresh t buffer store limit) where
   ok : Accepted t
@@ -62,7 +70,6 @@ module _ (t buffer : List ℕ) (store : List Range) (limit : ℕ) (can : CanFres
         width = ok.head.width_high;
         few = few;
         limited = can.limited;
-        store_long = can.long;
         table_room = rw ok.head.size (native.Mathlib.Nat.le_refl (place (rows t)));
         room = rw length-sets (rw (← ok.head.size) can.room);
         formed = accepted_formed t ok;
@@ -136,10 +143,10 @@ module _ (t buffer : List ℕ) (limit : ℕ) {v : Verdict} (judged : v ≡ run_v
   run_few e = (run_granted t buffer limit (granted e)).few
 
   -- with this limit, or another
-  pub run_asks : (store : List Range) → length store ≡ 1024 → v.number ≡ 0 → {most : ℕ} → most ≤ LIMIT → CanFresh t buffer store most
-  run_asks store long e few =
+  pub run_asks : (store : List Range) → v.number ≡ 0 → {most : ℕ} → most ≤ LIMIT → CanFresh t buffer store most
+  run_asks store e few =
       let ready : RunGranted t buffer limit = run_granted t buffer limit (granted e) in
-      record { table = ready.table; room = ready.roomy.room; long = long; limited = few }
+      record { table = ready.table; room = ready.roomy.room; limited = few }
 
   pub run_header : v.number ≡ 0 → HEADER ≤ length t
   run_header e =

@@ -6,7 +6,7 @@ use native.Mathlib.Nat.{le_refl, le_trans, lt_trans, lt_of_lt_of_le}
 use mathlib.Core.Path.{◌≡◌, ap, sym, subst, ◌∙◌}
 use mathlib.Core.Bool.{false, Bool}
 use mathlib.Core.List.{List}
-use lib.ListN.{length, replicate, length-replicate}
+use lib.ListN.{length, replicate}
 use Rattle.row.specs.Names.{HEADER, place}
 use Rattle.in_bytes.specs.Numbers.{Read}
 use Rattle.row.proofs.Places.{header_below, place_grows}
@@ -81,7 +81,6 @@ module _ (t old kept : List ℕ) (r limit : ℕ) (can : CanPatch t old kept r li
             width = ok.head.width_high;
             few = ok.head.few;
             limited = can.limited;
-            store_long = length-replicate {A = Range} 1024 (point 0);
             table_room = rw ok.head.size (le_refl (place (rows t)));
             room = rw (← ok.head.size) can.room;
             formed = accepted_formed t ok;
@@ -99,7 +98,6 @@ module _ (t old kept : List ℕ) (r limit : ℕ) (can : CanPatch t old kept r li
             width = all.width;
             few = le_trans fewer all.few;
             limited = all.limited;
-            store_long = all.store_long;
             table_room = le_trans (place_grows fewer) all.table_room;
             room = le_trans (place_grows fewer) all.room;
             formed = all.formed;

@@ -15,7 +15,6 @@ use Rattle.simplify.specs.Run.{fresh_rows, fresh_bytes, fresh_removed, fresh_com
 pub record CanFresh (t buffer : List ℕ) (store : List Range) (limit : ℕ) : Type 0 where
   pub table : check_table t ≡ accepted
   pub room : length t ≤ length buffer
-  pub long : length store ≡ 1024
   pub limited : limit ≤ LIMIT
 
 pub record Freshly (t buffer : List ℕ) (limit : ℕ) (left : List ℕ) (store : List Range) (counts : Counts) : Type 0 where

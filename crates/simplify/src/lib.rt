@@ -9,7 +9,7 @@ mod editing;
 mod running;
 
 pub use editing::edit;
-pub use running::{fresh, run};
+pub use running::{fresh, refused, run};
 use table::Refusal;
 
 #[repr(C)]
@@ -27,12 +27,6 @@ impl From<Refusal> for Answer {
     ghost from_gives = { λ refusal given. given ≡ answer (number_of refusal.fault) refusal.row 0 0 0 };
 
     fn from(refusal: Refusal) -> Answer {
-        Answer {
-            refusal: refusal.fault.number(),
-            row: refusal.row,
-            removed: 0,
-            touched: 0,
-            compared: 0,
-        }
+        refused(refusal.fault.number(), refusal.row)
     }
 }

@@ -1,4 +1,6 @@
 // A fresh run.
+ghost use Rattle.std.specs.Prelude.{◌≡◌};
+ghost use Rattle.simplify.specs.Answer.{answer};
 ghost use Rattle.simplify.specs.Run.{Ran};
 ghost use Rattle.simplify.specs.Fresh.{CanFresh, Freshly};
 
@@ -8,6 +10,19 @@ use marks::Marks;
 use range::Store;
 use renew::{Counts, renew};
 use row::Row;
+
+// The answer of a refusal.
+pub fn refused(number: u64, row: u64) -> Answer
+    ensures { result ≡ answer number row 0 0 0 }
+{
+    Answer {
+        refusal: number,
+        row: row,
+        removed: 0,
+        touched: 0,
+        compared: 0,
+    }
+}
 
 // Writes the fresh result of an accepted table, keeps the ranges of its word rows, and answers how many reads it removed and how many stores they compared.
 pub fn fresh(table: &[u8], res: &mut [u8], store: &mut Store, limit: usize) -> Counts

@@ -1,6 +1,4 @@
 use native.Mathlib.Omega.{arith}
-use lib.ListN.{length-replicate}
-use Rattle.range.specs.Range.{point}
 use mathlib.Core.Path.{refl}
 use Rattle.table.proofs.Told.{fault_some}
 use Rattle.simplify.proofs.FreshRun.{run_refused_lem, run_few, run_asks, run_header, run_done}
@@ -12,7 +10,7 @@ returns-in-Err c = run_refused_lem _ _ _ c.in-Err.ensures (fault_some _) c.into.
 pub fresh-counts-requires : goal.fresh-counts-requires
 fresh-counts-requires c =
     rw c.new-store.ensures
-    (run_asks _ _ _ c.in_default.ensures _ (length-replicate 1024 (point 0)) refl (omega (arith, run_few _ _ _ c.in_default.ensures refl)))
+    (run_asks _ _ _ c.in_default.ensures _ refl (omega (arith, run_few _ _ _ c.in_default.ensures refl)))
 
 pub rows_of-requires : goal.rows_of-requires
 rows_of-requires c = run_header _ _ _ c.in_default.ensures refl
