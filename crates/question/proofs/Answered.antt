@@ -6,7 +6,7 @@ use lib.Pow.{pow_pos}
 use mathlib.Core.Path.{◌≡◌, refl, ap, subst, sym, ◌∙◌}
 use mathlib.Core.Bool.{Bool, true, false}
 use mathlib.Core.List.{List}
-use lib.ListN.{length, take, replicate, length-replicate}
+use lib.ListN.{length, take, replicate}
 use lib.Seq.{length-take-le}
 use lib.Dec.{eqb}
 use borrow.Author.Tests.{ne_eqb}
