@@ -29,9 +29,15 @@ impl Text<'_> {
         requires { self.old.at < 2 ^ 63 }
         ensures { Wrote self.old word.now (length word.now) self.new }
     {
+        // in a text of its own the place goes along in a register; through `self` it would be loaded and stored for each byte
+        let mut text = Text {
+            out: self.out,
+            at: self.at,
+        };
         for b in word {
-            self.put_byte(*b);
+            text.put_byte(*b);
         }
+        self.at = text.at;
     }
 
     // Writes a number in decimal.
